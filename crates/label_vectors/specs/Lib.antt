@@ -1,0 +1,2 @@
+-- What the program's functions answer.
+pub mod Asked
