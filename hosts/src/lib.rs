@@ -1,0 +1,15 @@
+//! An independent reading of page 01 in plain Rust, to compare the kernel with.
+
+pub mod antt;
+pub mod ask;
+pub mod drawn;
+pub mod histories;
+pub mod history;
+pub mod label_cases;
+pub mod label_draw;
+pub mod label_forms;
+pub mod labels;
+pub mod ledger;
+pub mod model;
+pub mod random;
+pub mod steered;

@@ -1,0 +1,53 @@
+//! Calls 9 to 11: links of segments, fixed quotas and moves of quota.
+
+use super::{granted, need, Body, Caller, Judged, Kind, World};
+use super::{ALREADY_LINKED, FIXED_OR_NOT, LABEL_CONDITION, MALFORMED, NOT_ENOUGH_SPARE, WRONG_KIND};
+use crate::labels::*;
+
+/// "Move n, -256 to 256."
+const MOST_MOVED: i64 = 256;
+
+impl World {
+    /// "T may write D; O flows to T's clearance." The mask "is judged at creation only", so not here.
+    pub(super) fn link_segment(&mut self, t: &Caller, d1: u64, o: u64, d: u64) -> Judged {
+        let object = self.entry(t, d1, o)?;
+        self.readable_container(t, d)?;
+        need(object.kind() == Kind::Segment, WRONG_KIND)?;
+        let label_suits = flows(&object.label, &t.clearance);
+        need(self.may_write_container(t, d) && label_suits, LABEL_CONDITION)?;
+        need(object.is_fixed(), FIXED_OR_NOT)?;
+        need(!self.links.contains(&(d, o)), ALREADY_LINKED)?;
+        need(object.quota <= self.spare(d), NOT_ENOUGH_SPARE)?;
+        self.links.insert((d, o));
+        granted(0)
+    }
+
+    /// "T may write D, T flows to O. Already fixed: granted."
+    pub(super) fn fix_quota(&mut self, t: &Caller, d: u64, o: u64) -> Judged {
+        let object = self.entry(t, d, o)?;
+        need(object.kind() == Kind::Segment, WRONG_KIND)?;
+        need(self.may_write_container(t, d) && flows(&t.label, &object.label), LABEL_CONDITION)?;
+        if let Some(Body::Segment { fixed, .. }) = self.objects.get_mut(&o).map(|object| &mut object.body) {
+            *fixed = true;
+        }
+        granted(0)
+    }
+
+    /// "T may write D; T flows to O, O to T's clearance; if n < 0, O flows to high(T)."
+    pub(super) fn move_quota(&mut self, t: &Caller, d: u64, o: u64, n: i64) -> Judged {
+        need((-MOST_MOVED..=MOST_MOVED).contains(&n), MALFORMED)?;
+        let object = self.entry(t, d, o)?;
+        need(matches!(object.kind(), Kind::Segment | Kind::Container), WRONG_KIND)?;
+        let label_suits = flows(&t.label, &object.label)
+            && flows(&object.label, &t.clearance)
+            && (n >= 0 || may_read(&t.label, &object.label));
+        need(self.may_write_container(t, d) && label_suits, LABEL_CONDITION)?;
+        need(!object.is_fixed(), FIXED_OR_NOT)?;
+        let units = n.unsigned_abs();
+        let giver = if n > 0 { d } else { o }; // "n > 0 needs spare in D, n < 0 in O"
+        need(units <= self.spare(giver), NOT_ENOUGH_SPARE)?;
+        let object = self.objects.get_mut(&o).expect("the entry's object is live");
+        object.quota = if n > 0 { object.quota + units } else { object.quota - units };
+        granted(0)
+    }
+}
