@@ -1,0 +1,44 @@
+-- The numbers that calls issue, in the order in which they were issued. Page 01: "An id or category that a call issues is the call's own number."
+use Prim.Native.Nat.{ℕ, _+_, _<_}
+use mathlib.Core.Bool.{Bool, cond, _&&_, _||_}
+use mathlib.Core.Path.{_≡_}
+use mathlib.Core.List.{List, [], _∷_}
+use lib.ListN.{length, getD}
+use lib.Dec.{eqb, leb}
+use Rattle.rules.specs.Kernel.{Call, createCategory, setLabel, setClearance, createContainer, createSegment, createGate, createThread, unreference, linkSegment, fixQuota, moveQuota, read, write, resize, enterGate, look, call, answerOf, valueOf, History, started, next, worldAfter}
+
+-- the calls as page 01 counts them
+unfoldable pub callNumber : Call → ℕ
+callNumber createCategory = 1
+callNumber (setLabel l) = 2
+callNumber (setClearance x) = 3
+callNumber (createContainer d l s m q) = 4
+callNumber (createSegment d l s q) = 5
+callNumber (createGate d l k e x s) = 6
+callNumber (createThread d l k s) = 7
+callNumber (unreference d o) = 8
+callNumber (linkSegment d1 o d) = 9
+callNumber (fixQuota d o) = 10
+callNumber (moveQuota d o n) = 11
+callNumber (read d s k f n) = 12
+callNumber (write d s k f n b) = 13
+callNumber (resize d s n) = 14
+callNumber (enterGate d g lr cr lv out) = 15
+callNumber (look d o out) = 16
+
+-- calls 4 to 7 create an object
+unfoldable pub creates : Call → Bool
+creates x = leb 4 (callNumber x) && leb (callNumber x) 7
+
+-- "Calls 1 and 4 to 7 have their own number as value; others 0 except 15."
+unfoldable pub issues : Call → Bool
+issues x = eqb (callNumber x) 1 || creates x
+
+-- what a history has issued, the latest first: Start f and f + 1, each granted call 1 or 4 to 7 its value
+unfoldable pub issued : History → List ℕ
+issued (started f) = (f + 1) ∷ f ∷ []
+issued (next h c x) = cond (eqb (answerOf (call (worldAfter h) c x)) 0 && issues x) (valueOf (call (worldAfter h) c x) ∷ issued h) (issued h)
+
+-- o is one of them
+abbrev pub Listed : ℕ → List ℕ → Type 0
+Listed o os = (i : ℕ) × (i < length os) × (getD os i 0 ≡ o)

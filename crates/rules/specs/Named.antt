@@ -1,0 +1,28 @@
+-- The containers that a call names: "Every D named must be readable (else 5)."
+use Prim.Native.Nat.{ℕ}
+use mathlib.Core.Bool.{Bool, true, false, not, _&&_}
+use mathlib.Core.List.{List, [], _∷_}
+use Rattle.rules.specs.Kernel.{Obj, World, opens, Call, createCategory, setLabel, setClearance, createContainer, createSegment, createGate, createThread, unreference, linkSegment, fixQuota, moveQuota, read, write, resize, enterGate, look}
+
+unfoldable pub containersNamed : Call → List ℕ
+containersNamed createCategory = []
+containersNamed (setLabel l) = []
+containersNamed (setClearance c) = []
+containersNamed (createContainer d l s m q) = d ∷ []
+containersNamed (createSegment d l s q) = d ∷ []
+containersNamed (createGate d l c e x s) = d ∷ []
+containersNamed (createThread d l c s) = d ∷ []
+containersNamed (unreference d o) = d ∷ []
+containersNamed (linkSegment d1 o d) = d1 ∷ d ∷ []
+containersNamed (fixQuota d o) = d ∷ []
+containersNamed (moveQuota d o n) = d ∷ []
+containersNamed (read d s k f m) = d ∷ []
+containersNamed (write d s k f m b) = d ∷ []
+containersNamed (resize d s m) = d ∷ []
+containersNamed (enterGate d g lr cr lv out) = d ∷ []
+containersNamed (look d o out) = d ∷ []
+
+-- t may read each of them, and each is a container
+unfoldable pub allOpen : World → Obj → List ℕ → Bool
+allOpen w t [] = true
+allOpen w t (d ∷ ds) = opens w t d && allOpen w t ds

@@ -1,0 +1,14 @@
+-- What is proved of the rules.
+pub mod Refusals
+pub mod Reads
+pub mod Numbers
+pub mod Shrinks
+pub mod Holds
+pub mod Cuts
+pub mod StaysSound
+pub mod Outputs
+pub mod Reckoned
+pub mod Exactly
+pub mod Granted
+pub mod Unreadable
+pub mod Paper

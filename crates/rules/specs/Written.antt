@@ -1,0 +1,51 @@
+-- What the calls so far have left at each place of each segment, reckoned from the calls alone. Page 01: a write puts its bytes from 64k + from on; in a
+-- resize "new bytes are zero .. freed bytes are set to zero"; a new segment has length 0.
+use Prim.Native.Nat.{ℕ, _+_, _*_, _-_}
+use mathlib.Core.Bool.{Bool, false, cond, _&&_}
+use lib.ListN.{length, getD}
+use lib.Dec.{eqb, leb, ltb}
+use Rattle.rules.specs.Kernel.{Call, createCategory, setLabel, setClearance, createContainer, createSegment, createGate, createThread, unreference, linkSegment, fixQuota, moveQuota, read, write, resize, enterGate, look, call, answerOf, History, started, next, worldAfter, blockSize}
+
+-- place i of the segment s after a granted call, where `was` stood before it
+unfoldable pub leftBy : Call → ℕ → ℕ → ℕ → ℕ
+leftBy (write d t k from count b) s i was =
+    cond (eqb s t && (leb (blockSize * k + from) i && ltb i (blockSize * k + from + length b))) (getD b (i - (blockSize * k + from)) 0) was
+leftBy (resize d t n) s i was = cond (eqb s t && leb n i) 0 was
+leftBy createCategory s i was = was
+leftBy (setLabel l) s i was = was
+leftBy (setClearance x) s i was = was
+leftBy (createContainer d l y m q) s i was = was
+leftBy (createSegment d l y q) s i was = was
+leftBy (createGate d l k e x y) s i was = was
+leftBy (createThread d l k y) s i was = was
+leftBy (unreference d o) s i was = was
+leftBy (linkSegment d1 o d) s i was = was
+leftBy (fixQuota d o) s i was = was
+leftBy (moveQuota d o n) s i was = was
+leftBy (read d t k from count) s i was = was
+leftBy (enterGate d g lr cr lv out) s i was = was
+leftBy (look d o out) s i was = was
+
+-- the byte last written at place i of the segment s, 0 where none was or where a resize has cut it off since; "Granted is 0": any other answer writes nothing
+unfoldable pub lastWritten : History → ℕ → ℕ → ℕ
+lastWritten (started f) s i = 0
+lastWritten (next h c x) s i = cond (eqb (answerOf (call (worldAfter h) c x)) 0) (leftBy x s i (lastWritten h s i)) (lastWritten h s i)
+
+-- the call is a write or a resize of the segment s
+unfoldable pub rewrites : Call → ℕ → Bool
+rewrites (write d t k from count b) s = eqb s t
+rewrites (resize d t n) s = eqb s t
+rewrites createCategory s = false
+rewrites (setLabel l) s = false
+rewrites (setClearance x) s = false
+rewrites (createContainer d l y m q) s = false
+rewrites (createSegment d l y q) s = false
+rewrites (createGate d l k e x y) s = false
+rewrites (createThread d l k y) s = false
+rewrites (unreference d o) s = false
+rewrites (linkSegment d1 o d) s = false
+rewrites (fixQuota d o) s = false
+rewrites (moveQuota d o n) s = false
+rewrites (read d t k from count) s = false
+rewrites (enterGate d g lr cr lv out) s = false
+rewrites (look d o out) s = false
