@@ -1,0 +1,10 @@
+-- Worked examples: what page 01 says comes out of the rules by computing.
+pub mod Play
+pub mod Grantday
+pub mod Errors
+pub mod Model1
+pub mod Model2
+pub mod Model3
+pub mod Model4
+pub mod Model5
+pub mod Met
