@@ -1,0 +1,2 @@
+-- The book, byte by byte.
+pub mod Layout
