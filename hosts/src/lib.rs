@@ -2,6 +2,7 @@
 
 pub mod antt;
 pub mod ask;
+pub mod book;
 pub mod drawn;
 pub mod histories;
 pub mod history;
