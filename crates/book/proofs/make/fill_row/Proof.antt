@@ -1,0 +1,38 @@
+use mathlib.Core.Path.{_≡_, ap, _∙_}
+use Prim.Native.Nat.{_*_}
+use Rattle.rules.specs.Kernel.{textSize}
+use Rattle.tables.specs.Layout.{View, view, runT}
+use Rattle.book.specs.Enact.{descriptionT, closureT, relabelled}
+use Rattle.book.specs.Laws.Handed.{filled-is}
+use borrow.Author.Needs.{needs}
+use Rattle.book.proofs.make.fill_row.Statement.{statement}
+use Rattle.book.proofs.make.fill_row.Tie as tie
+
+fill-numbers-requires : tie.Need-fill-numbers-requires
+fill-numbers-requires c κs = search needs
+
+relabel-requires : tie.Need-relabel-requires
+relabel-requires c κs = search needs
+
+fill-texts-requires : tie.Need-fill-texts-requires
+fill-texts-requires c κs = search needs
+
+same-length : tie.Need-same-length
+same-length c = search needs
+
+returns : tie.Need-returns
+returns c =
+    let t = c .before .before in
+    let l = t .before .before .before .before in
+    let n = l .before .before .before .before in
+    let s = n .before .before .before .before .before in
+    let a = s .args in
+    t .fill-texts .ensures
+    ∙ ap (λ (v : View). runT closureT (a .r * textSize) (a .closure .now) (runT descriptionT (a .r * textSize) (a .description .now) v)) (l .relabel .ensures
+    ∙ ap (relabelled (a .r) (a .row .label) (a .row .clearance)) (n .fill-numbers .ensures))
+    ∙ filled-is (a .r) (a .id) (a .row) (a .description .now) (a .closure .now) (view (a .b .now)) (s .pre .handed)
+
+pub fill-row-spec : {M : Type 1} → statement M
+fill-row-spec =
+    tie.close
+    (tie.spec fill-numbers-requires relabel-requires fill-texts-requires same-length returns)

@@ -1,0 +1,96 @@
+use borrow.Author.Needs.{needs}
+use Prim.Native.Nat.{_+_}
+use native.Mathlib.Omega.{arith}
+use mathlib.Core.Path.{refl, sym, _∙_, ap}
+use Rattle.tables.specs.Layout.{view, putT}
+use Rattle.book.specs.Enact.{indexT}
+use Rattle.book.specs.Laws.Cleared.{free-low, added-at, added-nothing}
+use Rattle.book.proofs.resize.add_block.Statement.{statement}
+use Rattle.book.proofs.resize.add_block.Tie as tie
+
+free-block-requires : tie.Need-free-block-requires
+free-block-requires c κs = search needs
+
+enum-known-fresh : tie.Need-enum-known-fresh
+enum-known-fresh c = search needs
+
+enum-told : tie.Need-enum-told
+enum-told c = search needs
+
+same-length : tie.Need-same-length
+same-length c = search needs
+
+returns : tie.Need-returns
+returns c =
+    let a = c .before .before .before .before .before .before .args in
+    let n = added-nothing (a .r) (a .k) (view (a .b .now)) (a .area .now) (sym (c .before .before .free-block .ensures) ∙ c .enum-told .given .1) in
+    (sym (n .0), sym (n .1))
+
+add-put16 : tie.Need-add-put16
+add-put16 c = search needs
+
+cast-put16 : tie.Need-cast-put16
+cast-put16 c = search needs
+
+put16-requires : tie.Need-put16-requires
+put16-requires c κs =
+    let b = c .before .before .before .before .before .before .before .before .args .b .now in
+    let f = c .before .before .before .before .free-block in
+    let x = c .before .before .fresh in
+    let l = free-low (view b) (x .given .0 .0) (sym (f .ensures) ∙ x .given .1) in
+    record { whole = c .before .before .before .before .before .before .before .before .pre .0; table = omega arith; wide = refl; place = l }
+
+cast-put8 : tie.Need-cast-put8
+cast-put8 c = search needs
+
+put8-requires : tie.Need-put8-requires
+put8-requires c κs =
+    let b = c .before .before .before .before .before .before .before .before .before .before .before .before .args .b .now in
+    let f = c .before .before .before .before .before .before .before .before .free-block in
+    let x = c .before .before .before .before .before .before .fresh in
+    let l = free-low (view b) (x .given .0 .0) (sym (f .ensures) ∙ x .given .1) in
+    record { whole = omega arith; table = omega arith; wide = refl; place = l }
+
+clear-block-requires : tie.Need-clear-block-requires
+clear-block-requires c κs =
+    let b = c .before .before .before .before .before .before .before .before .before .before .before .before .before .before .before .before .args .b .now in
+    let f = c .before .before .before .before .before .before .before .before .before .before .before .before .free-block in
+    let x = c .before .before .before .before .before .before .before .before .before .before .fresh in
+    let l = free-low (view b) (x .given .0 .0) (sym (f .ensures) ∙ x .given .1) in
+    (omega arith, omega arith)
+
+same-length-2 : tie.Need-same-length-2
+same-length-2 c = search needs
+
+same-length-3 : tie.Need-same-length-3
+same-length-3 c = search needs
+
+returns-2 : tie.Need-returns-2
+returns-2 c =
+    let a = c .before .before .before .before .before .before .before .before .before .before .before .before .before .before .before .before .before .before .before .args in
+    let f = c .before .before .before .before .before .before .before .before .before .before .before .before .before .before .before .free-block in
+    let x = c .before .before .before .before .before .before .before .before .before .before .before .before .before .fresh in
+    let p = c .before .before .before .before .before .before .before .before .before .before .put16 in
+    let q = c .before .before .before .before .before .before .put8 in
+    let w = c .before .before .clear-block in
+    let d = added-at (a .r) (a .k) (view (a .b .now)) (a .area .now) (x .given .0 .0) (sym (f .ensures) ∙ x .given .1) in
+    (q .ensures ∙ ap (putT indexT (x .given .0 .0) (a .k)) (p .ensures) ∙ sym (d .0), w .ensures ∙ sym (d .1))
+
+pub add-block-spec : {M : Type 1} → statement M
+add-block-spec =
+    tie.close
+    (tie.spec
+    free-block-requires
+    enum-known-fresh
+    enum-told
+    same-length
+    returns
+    add-put16
+    cast-put16
+    put16-requires
+    cast-put8
+    put8-requires
+    clear-block-requires
+    same-length-2
+    same-length-3
+    returns-2)

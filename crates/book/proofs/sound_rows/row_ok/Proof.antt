@@ -1,0 +1,50 @@
+use borrow.Author.Needs.{needs}
+use mathlib.Core.Path.{sym, _∙_}
+use borrow.Author.Tests.{not-true, not-false, eq-eqb, ne-eqb}
+use Rattle.book.specs.Test.{rowB}
+use Rattle.book.proofs.sound_rows.row_ok.Statement.{statement}
+use Rattle.book.proofs.sound_rows.row_ok.Tie as tie
+
+get8-requires : tie.Need-get8-requires
+get8-requires c κs = search needs
+
+returns : tie.Need-returns
+unfolding rowB
+returns c = rw (← c .before .get8 .ensures, eq-eqb _ _ (c .if1 .taken))
+
+range-ok-requires : tie.Need-range-ok-requires
+range-ok-requires c κs = search needs
+
+returns-2 : tie.Need-returns-2
+unfolding rowB
+returns-2 c =
+    rw (← c .before .before .before .get8 .ensures, ne-eqb _ _ (c .before .before .if1 .left), sym (c .before .range-ok .ensures) ∙ not-true _ (c .if2 .taken))
+
+id-ok-requires : tie.Need-id-ok-requires
+id-ok-requires c κs = search needs
+
+returns-3 : tie.Need-returns-3
+unfolding rowB
+returns-3 c =
+    rw (← c .before .before .before .before .before .get8 .ensures, ne-eqb _ _ (c .before .before .before .before .if1 .left), sym (c .before .before .before .range-ok .ensures) ∙ not-false _ (c .before .before .if2 .left), sym (c .before .id-ok .ensures) ∙ not-true _ (c .if3 .taken))
+
+label-ok-requires : tie.Need-label-ok-requires
+label-ok-requires c κs = search needs
+
+returns-4 : tie.Need-returns-4
+unfolding rowB
+returns-4 c =
+    rw (← c .before .before .before .before .before .before .get8 .ensures, ne-eqb _ _ (c .before .before .before .before .before .if1 .left), sym (c .before .before .before .before .range-ok .ensures) ∙ not-false _ (c .before .before .before .if2 .left), sym (c .before .before .id-ok .ensures) ∙ not-false _ (c .before .if3 .left)) (c .label-ok .ensures)
+
+pub row-ok-spec : {M : Type 1} → statement M
+row-ok-spec =
+    tie.close
+    (tie.spec
+    get8-requires
+    returns
+    range-ok-requires
+    returns-2
+    id-ok-requires
+    returns-3
+    label-ok-requires
+    returns-4)

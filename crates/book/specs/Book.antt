@@ -1,0 +1,160 @@
+-- What the tables of a book and the data area mean: which world they spell. docs/BOOK.md has the tables byte by byte.
+use Prim.Native.Nat.{ℕ, zero, suc, _+_, _*_, _-_, _/_, _%_}
+use mathlib.Core.Bool.{Bool, true, false, not, cond}
+use mathlib.Core.List.{List, [], _∷_}
+use lib.ListN.{getD, take, drop}
+use lib.Dec.{eqb}
+use Rattle.labels.specs.declared.Label.{Label}
+use Rattle.labels.specs.Core.{wordCount}
+use Rattle.quotas.specs.Any.{any, both}
+use Rattle.rules.specs.Kernel.{Kind, absent, thread, gate, segment, container, isGate, isSegment, isContainer, hasClearance, Obj, World, blank, nothing, blockSize, textSize}
+use Rattle.tables.specs.Layout.{View, rowCount, linkCount, blockCount}
+use Rattle.book.specs.declared.Found.{Found}
+use Rattle.book.specs.declared.Found.the-variants.{At, Nothing}
+
+-- ---- what stands in a book
+
+abbrev pub nextOf : View → ℕ
+nextOf v = getD (v .next) 0 0
+
+abbrev pub rootOf : View → ℕ
+rootOf v = getD (v .root) 0 0
+
+abbrev pub idOf : View → ℕ → ℕ
+idOf v r = getD (v .id) r 0
+
+-- a kind's code; 0 is a free row
+abbrev pub codeOf : View → ℕ → ℕ
+codeOf v r = getD (v .kind) r 0
+
+abbrev pub maskOf : View → ℕ → ℕ
+maskOf v r = getD (v .mask) r 0
+
+abbrev pub fixedOf : View → ℕ → ℕ
+fixedOf v r = getD (v .fixed) r 0
+
+abbrev pub quotaOf : View → ℕ → ℕ
+quotaOf v r = getD (v .quota) r 0
+
+abbrev pub lenOf : View → ℕ → ℕ
+lenOf v r = getD (v .len) r 0
+
+abbrev pub entryOf : View → ℕ → ℕ
+entryOf v r = getD (v .entry) r 0
+
+abbrev pub labelOf : View → ℕ → Label
+labelOf v r = record { default = getD (v .labelDefault) r 0; words = take wordCount (drop (r * wordCount) (v .labelWords)) }
+
+abbrev pub clearanceOf : View → ℕ → Label
+clearanceOf v r = record { default = getD (v .clearDefault) r 0; words = take wordCount (drop (r * wordCount) (v .clearWords)) }
+
+abbrev pub descriptionOf : View → ℕ → List ℕ
+descriptionOf v r = take textSize (drop (r * textSize) (v .description))
+
+abbrev pub closureOf : View → ℕ → List ℕ
+closureOf v r = take textSize (drop (r * textSize) (v .closure))
+
+-- link l: its container's row and one more, or 0 where it is free; that row; its object's row
+abbrev pub markOf : View → ℕ → ℕ
+markOf v l = getD (v .linkFrom) l 0
+
+abbrev pub fromOf : View → ℕ → ℕ
+fromOf v l = markOf v l - 1
+
+abbrev pub toOf : View → ℕ → ℕ
+toOf v l = getD (v .linkTo) l 0
+
+-- block b: its segment's row and one more, or 0 where it is free; which block of the segment it is
+abbrev pub ownerOf : View → ℕ → ℕ
+ownerOf v b = getD (v .owner) b 0
+
+abbrev pub indexOf : View → ℕ → ℕ
+indexOf v b = getD (v .index) b 0
+
+abbrev pub liveRow : View → ℕ → Bool
+liveRow v r = not (eqb (codeOf v r) 0)
+
+abbrev pub liveLink : View → ℕ → Bool
+liveLink v l = not (eqb (markOf v l) 0)
+
+-- the blocks of n bytes
+abbrev pub blocksOf : ℕ → ℕ
+blocksOf n = (n + 63) / 64
+
+-- ---- the lowest place
+
+-- the lowest of n places from i on at which a test holds
+unfoldable pub firstFrom : ℕ → ℕ → (ℕ → Bool) → Found
+firstFrom zero i f = Nothing
+firstFrom (suc n) i f = cond (f i) (At i) (firstFrom n (suc i) f)
+
+-- the lowest place below n
+abbrev pub first : ℕ → (ℕ → Bool) → Found
+first n f = firstFrom n 0 f
+
+-- by whether a place was found
+abbrev pub onFound : {X : Type 0} → Found → (ℕ → X) → X → X
+onFound (At i) hit miss = hit i
+onFound Nothing hit miss = miss
+
+-- ---- bytes of a segment
+
+abbrev pub isBlock : View → ℕ → ℕ → ℕ → Bool
+isBlock v r k b = both (eqb (ownerOf v b) (r + 1)) (eqb (indexOf v b) k)
+
+-- the block of the data area that is block k of the segment at row r
+unfoldable pub blockAt : View → ℕ → ℕ → ℕ
+blockAt v r k = onFound (first blockCount (isBlock v r k)) (λ b. b) 0
+
+-- where byte i of the segment at row r lies
+unfoldable pub placeOf : View → ℕ → ℕ → ℕ
+placeOf v r i = blockSize * blockAt v r (i / blockSize) + i % blockSize
+
+-- f 0, f 1, .. and f (n - 1)
+unfoldable pub collect : ℕ → (ℕ → ℕ) → List ℕ
+collect zero f = []
+collect (suc n) f = f 0 ∷ collect n (λ i. f (suc i))
+
+unfoldable pub bytesOf : View → List ℕ → ℕ → List ℕ
+bytesOf v area r = collect (lenOf v r) (λ i. getD area (placeOf v r i) 0)
+
+-- ---- the world
+
+unfoldable pub kindFrom : ℕ → Kind
+kindFrom n = cond (eqb n 1) thread (cond (eqb n 2) gate (cond (eqb n 3) segment (cond (eqb n 4) container absent)))
+
+-- the object at a row; fields that its kind does not have are unused bytes
+unfoldable pub objectAt : View → List ℕ → ℕ → Obj
+objectAt v area r =
+    record {
+      kind = kindFrom (codeOf v r);
+      label = labelOf v r;
+      clearance = cond (hasClearance (kindFrom (codeOf v r))) (clearanceOf v r) blank;
+      quota = quotaOf v r;
+      fixed = cond (isSegment (kindFrom (codeOf v r))) (eqb (fixedOf v r) 1) false;
+      mask = cond (isContainer (kindFrom (codeOf v r))) (maskOf v r) 0;
+      bytes = cond (isSegment (kindFrom (codeOf v r))) (bytesOf v area r) [];
+      entry = cond (isGate (kindFrom (codeOf v r))) (entryOf v r) 0;
+      description = descriptionOf v r;
+      closure = cond (isGate (kindFrom (codeOf v r))) (closureOf v r) [];
+    }
+
+-- the row of an id: the lowest live row that has it
+abbrev pub hasId : View → ℕ → ℕ → Bool
+hasId v o r = both (liveRow v r) (eqb (idOf v r) o)
+
+unfoldable pub rowOf : View → ℕ → Found
+rowOf v o = first rowCount (hasId v o)
+
+-- link l leads from the object d to the object o
+abbrev pub isLink : View → ℕ → ℕ → ℕ → Bool
+isLink v d o l = both (liveLink v l) (both (eqb (idOf v (fromOf v l)) d) (eqb (idOf v (toOf v l)) o))
+
+unfoldable pub worldOf : View → List ℕ → World
+worldOf v area =
+    record {
+      next = nextOf v;
+      root = rootOf v;
+      obj = λ o. onFound (rowOf v o) (objectAt v area) nothing;
+      linked = λ d o. any linkCount (isLink v d o);
+    }

@@ -1,0 +1,88 @@
+-- What the functions that test a book go by: each test said of what they have read.
+use Prim.Native.Nat.{ℕ, zero, suc, _+_, _<_, _≤_}
+use native.Mathlib.Omega.{arith}
+use mathlib.Core.Bool.{Bool, true, false, not, cond, _&&_}
+use mathlib.Core.Path.{_≡_, refl, sym, _∙_, ap}
+use lib.Dec.{eqb, ltb, leb}
+use borrow.Author.Tests.{eq-eqb, ne-eqb, le-leb, lt-leb, le-ltb, lt-ltb, leb-true, leb-false}
+use Rattle.labels.specs.declared.Label.{Label}
+use Rattle.labels.specs.Core.{wellFormed, flows}
+use Rattle.quotas.specs.Any.{any, both, either}
+use Rattle.tables.specs.Layout.{View}
+use Rattle.book.specs.Book.{nextOf, idOf, codeOf, labelOf, clearanceOf, markOf, toOf, liveRow, hasId}
+use Rattle.book.specs.Sound.{linksTo}
+use Rattle.book.specs.Test.{every, clearB, labelB, sameB, onceB}
+
+-- ---- tests
+
+-- Less is at least one more.
+pub less-is : (x y : ℕ) → ltb x y ≡ leb (1 + x) y
+less-is x y = go (leb (1 + x) y) refl
+  where
+    go : (b : Bool) → leb (1 + x) y ≡ b → ltb x y ≡ leb (1 + x) y
+    go true e = lt-ltb x y (omega (arith, leb-true (1 + x) y e)) ∙ sym e
+    go false e = le-ltb x y (omega (arith, leb-false (1 + x) y e)) ∙ sym e
+
+-- Some index passes unless every one fails.
+pub any-every : (n : ℕ) (t : ℕ → Bool) → any n t ≡ not (every n (λ i. not (t i)))
+unfolding any every either
+any-every zero t = refl
+any-every (suc n) t = go (t n) (any-every n t)
+  where
+    go : (b : Bool) → any n t ≡ not (every n (λ i. not (t i))) → either b (any n t) ≡ not (not b && every n (λ i. not (t i)))
+    go true h = refl
+    go false h = h
+
+-- ---- ids
+
+both-none : (a b : Bool) → b ≡ false → both a b ≡ false
+unfolding both
+both-none true b e = e
+both-none false b e = refl
+
+both-one : (a b : Bool) → b ≡ true → both a b ≡ a
+unfolding both
+both-one true b e = e
+both-one false b e = refl
+
+-- A row with another id does not have this one.
+pub id-other : (v : View) (o r : ℕ) → (idOf v r ≡ o → ⊥) → hasId v o r ≡ false
+id-other v o r ne = both-none (liveRow v r) (eqb (idOf v r) o) (ne-eqb (idOf v r) o ne)
+
+-- A row with this id has it if it is live.
+pub id-same : (v : View) (o r : ℕ) → idOf v r ≡ o → hasId v o r ≡ not (eqb (codeOf v r) 0)
+id-same v o r e = both-one (liveRow v r) (eqb (idOf v r) o) (eq-eqb (idOf v r) o e)
+
+-- ---- labels, as they were read
+
+pub clear-read : (v : View) (r : ℕ) (l c : Label) (n : ℕ) → l ≡ labelOf v r → c ≡ clearanceOf v r → n ≡ nextOf v → (t : Bool) → wellFormed n false c ≡ t → clearB v r ≡ (t && flows l c)
+unfolding clearB
+clear-read v r l c n el ec en t et =
+    ap (λ (x : Label). wellFormed (nextOf v) false x && flows (labelOf v r) x) (sym ec)
+    ∙ ap (λ (x : Label). wellFormed (nextOf v) false c && flows x c) (sym el)
+    ∙ ap (λ (m : ℕ). wellFormed m false c && flows l c) (sym en)
+    ∙ ap (λ (x : Bool). x && flows l c) et
+
+pub label-read : (v : View) (r k : ℕ) (l : Label) (n : ℕ) → k ≡ codeOf v r → l ≡ labelOf v r → n ≡ nextOf v → (t : Bool) → wellFormed n (leb k 2) l ≡ t → labelB v r ≡ (t && cond (leb k 2) (clearB v r) true)
+unfolding labelB
+label-read v r k l n ek el en t et =
+    ap (λ (x : Label). wellFormed (nextOf v) (leb (codeOf v r) 2) x && cond (leb (codeOf v r) 2) (clearB v r) true) (sym el)
+    ∙ ap (λ (x : ℕ). wellFormed (nextOf v) (leb x 2) l && cond (leb x 2) (clearB v r) true) (sym ek)
+    ∙ ap (λ (m : ℕ). wellFormed m (leb k 2) l && cond (leb k 2) (clearB v r) true) (sym en)
+    ∙ ap (λ (x : Bool). x && cond (leb k 2) (clearB v r) true) et
+
+-- ---- links, by what was counted
+
+-- A link to an object that has no other is the same as none.
+pub once-few : (v : View) (l o n : ℕ) → o ≡ toOf v l → n ≡ linksTo v o → n ≤ 1 → onceB v (linksTo v) l ≡ true
+unfolding onceB
+once-few v l o n eo en h = go (eqb (markOf v l) 0)
+  where
+    go : (b : Bool) → cond b true (cond (leb (linksTo v (toOf v l)) 1) true (every l (λ m. not (sameB v l m)))) ≡ true
+    go true = refl
+    go false = rw (le-leb (linksTo v (toOf v l)) 1 (omega (arith, en, ap (linksTo v) eo)))
+
+-- A link to an object that has others is compared with those below it.
+pub once-many : (v : View) (l o n : ℕ) → (markOf v l ≡ 0 → ⊥) → o ≡ toOf v l → n ≡ linksTo v o → 1 < n → onceB v (linksTo v) l ≡ every l (λ m. not (sameB v l m))
+unfolding onceB
+once-many v l o n ne eo en h = rw (ne-eqb (markOf v l) 0 ne, lt-leb (linksTo v (toOf v l)) 1 (omega (arith, en, ap (linksTo v) eo)))

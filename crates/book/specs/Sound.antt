@@ -1,0 +1,106 @@
+-- Page 01: "A book is sound when: ..". One field for each clause, in its words and order.
+use Prim.Native.Nat.{ℕ, suc, _+_, _-_, _<_, _≤_}
+use mathlib.Core.Bool.{Bool, true, false}
+use mathlib.Core.Path.{_≡_}
+use lib.Bits.{bitOr}
+use lib.Dec.{eqb, leb}
+use Rattle.labels.specs.Core.{wellFormed, flows}
+use Rattle.quotas.specs.Sum.{Σ, when}
+use Rattle.rules.specs.Kernel.{lastNumber, rootQuota, maxMask, maxLength, units}
+use Rattle.tables.specs.Layout.{View, rowCount, linkCount, blockCount}
+use Rattle.book.specs.Book.{nextOf, rootOf, idOf, codeOf, maskOf, fixedOf, quotaOf, lenOf, labelOf, clearanceOf, markOf, fromOf, toOf, ownerOf, indexOf, liveLink, blocksOf, isBlock}
+
+-- ---- what is in use
+
+-- the row of a live object
+pub record Live (v : View) (r : ℕ) : Type 0 where
+  pub low : r < rowCount
+  pub used : codeOf v r ≡ 0 → ⊥
+
+-- a live link
+pub record On (v : View) (l : ℕ) : Type 0 where
+  pub low : l < linkCount
+  pub used : markOf v l ≡ 0 → ⊥
+
+-- a used block
+pub record Used (v : View) (b : ℕ) : Type 0 where
+  pub low : b < blockCount
+  pub used : ownerOf v b ≡ 0 → ⊥
+
+-- how many links lead to row r
+unfoldable pub linksTo : View → ℕ → ℕ
+linksTo v r = Σ linkCount (λ l. when (liveLink v l) (when (eqb (toOf v l) r) 1))
+
+-- the quotas of all that is linked in the container at row c
+unfoldable pub chargedTo : View → ℕ → ℕ
+chargedTo v c = Σ linkCount (λ l. when (liveLink v l) (when (eqb (fromOf v l) c) (quotaOf v (toOf v l))))
+
+-- how many blocks are block k of the segment at row r
+unfoldable pub timesHeld : View → ℕ → ℕ → ℕ
+timesHeld v r k = Σ blockCount (λ b. when (isBlock v r k b) 1)
+
+-- ---- ranges
+
+-- kind 1 to 4; thread and gate have quota 1, others 1 to 256 (255 but for the root, as the tree shows); a segment's length and fixed mark, a container's mask
+pub record Range (code q n fixed mask : ℕ) : Type 0 where
+  pub code-most : code ≤ 4
+  pub quota-some : 1 ≤ q
+  pub quota-most : q ≤ rootQuota
+  pub quota-one : code ≤ 2 → q ≡ 1
+  pub length-most : code ≡ 3 → n ≤ maxLength
+  pub fixed-most : code ≡ 3 → fixed ≤ 1
+  pub mask-most : code ≡ 4 → mask ≤ maxMask
+
+-- a link leads from a live container to a live object
+pub record Ends (v : View) (l : ℕ) : Type 0 where
+  pub from-low : fromOf v l < rowCount
+  pub from-container : codeOf v (fromOf v l) ≡ 4
+  pub to-low : toOf v l < rowCount
+  pub to-live : codeOf v (toOf v l) ≡ 0 → ⊥
+
+-- a block belongs to a live segment that is long enough to have it
+pub record Owned (v : View) (b : ℕ) : Type 0 where
+  pub owner-low : ownerOf v b - 1 < rowCount
+  pub owner-segment : codeOf v (ownerOf v b - 1) ≡ 3
+  pub within : indexOf v b < blocksOf (lenOf v (ownerOf v b - 1))
+
+-- the root: a container of quota 256 with the root's id, to which no link leads
+pub record Root (v : View) (r : ℕ) : Type 0 where
+  pub low : r < rowCount
+  pub is-container : codeOf v r ≡ 4
+  pub has-id : idOf v r ≡ rootOf v
+  pub quota-all : quotaOf v r ≡ rootQuota
+  pub no-link : linksTo v r ≡ 0
+
+-- ---- sound
+
+pub record Sound (v : View) : Type 0 where
+  -- "every field is in its range"
+  pub next-most : nextOf v ≤ suc lastNumber
+  pub ranges : (r : ℕ) → Live v r → Range (codeOf v r) (quotaOf v r) (lenOf v r) (fixedOf v r) (maskOf v r)
+  pub ends : (l : ℕ) → On v l → Ends v l
+  -- "ids are distinct and below the next number"
+  pub ids-from : (r : ℕ) → Live v r → 1 ≤ idOf v r
+  pub ids-below : (r : ℕ) → Live v r → idOf v r < nextOf v
+  pub ids-apart : (r s : ℕ) → Live v r → Live v s → s < r → idOf v r ≡ idOf v s → ⊥
+  -- "labels are well formed against it", star only in labels of threads and gates
+  pub labels : (r : ℕ) → Live v r → wellFormed (nextOf v) (leb (codeOf v r) 2) (labelOf v r) ≡ true
+  pub clearances : (r : ℕ) → Live v r → codeOf v r ≤ 2 → wellFormed (nextOf v) false (clearanceOf v r) ≡ true
+  -- "thread and gate labels flow to their clearances"
+  pub flow : (r : ℕ) → Live v r → codeOf v r ≤ 2 → flows (labelOf v r) (clearanceOf v r) ≡ true
+  -- "containers form a tree under one root of quota 256"
+  pub root : (r : ℕ) × Root v r
+  -- "every other object has a link"
+  pub some-link : (r : ℕ) → Live v r → (idOf v r ≡ rootOf v → ⊥) → 1 ≤ linksTo v r
+  -- "exactly one unless it is a segment with its quota fixed"
+  pub one-link : (r : ℕ) → Live v r → ((codeOf v r ≡ 3) × (fixedOf v r ≡ 1) → ⊥) → linksTo v r ≤ 1
+  -- "no link occurs twice"
+  pub links-apart : (l m : ℕ) → On v l → On v m → m < l → fromOf v l ≡ fromOf v m → toOf v l ≡ toOf v m → ⊥
+  -- "use never exceeds quota"
+  pub container-fits : (r : ℕ) → Live v r → codeOf v r ≡ 4 → 1 + chargedTo v r ≤ quotaOf v r
+  pub segment-fits : (r : ℕ) → Live v r → codeOf v r ≡ 3 → units (lenOf v r) ≤ quotaOf v r
+  -- "a child's mask includes its parent's"
+  pub masks : (l : ℕ) → On v l → codeOf v (toOf v l) ≡ 4 → bitOr (maskOf v (toOf v l)) (maskOf v (fromOf v l)) ≡ maskOf v (toOf v l)
+  -- "each segment has exactly its blocks and no block has two owners"
+  pub owned : (b : ℕ) → Used v b → Owned v b
+  pub blocks-once : (r : ℕ) → Live v r → codeOf v r ≡ 3 → (k : ℕ) → k < blocksOf (lenOf v r) → timesHeld v r k ≡ 1

@@ -1,0 +1,159 @@
+// Whether each segment has exactly its blocks and no block has two owners: there are as many used blocks as the segments need, each is one
+// of its segment's, and no two are the same one. For the last, all segments' blocks are numbered one after the other.
+ghost use mathlib.Core.Path.{_≡_};
+ghost use mathlib.Core.Bool.{true, not};
+ghost use Prim.Native.Nat.{_+_, _<_, _≤_};
+ghost use lib.Dec.{eqb};
+ghost use lib.ListN.{length, replicate};
+ghost use Rattle.quotas.specs.Sum.{when};
+ghost use Rattle.tables.specs.Layout.{size, view, rowCount, blockCount};
+ghost use Rattle.book.specs.Book.{codeOf, lenOf, ownerOf, blocksOf};
+ghost use Rattle.book.specs.Test.{every, ownedB, blockB, usedBlocks, neededBlocks, blocksB};
+ghost use Rattle.book.specs.Seen.{numberOf, Offsets, Seen};
+use super::numbers::blocks_of;
+use super::numbers::index;
+use super::numbers::row_of;
+use super::numbers::small;
+use super::numbers::small_index;
+use tables::BLOCKS;
+use tables::INDEX;
+use tables::KIND;
+use tables::LEN;
+use tables::OWNER;
+use tables::ROWS;
+use tables::get8;
+use tables::get16;
+
+// ---- how many
+
+// 1 where block i is used, else 0.
+fn used(b: &[u8], i: usize) -> usize
+    requires { ⌜ (length (now b) ≡ size) × (i < blockCount) ⌝ }
+    ensures { λ n. ⌜ (n ≡ when (not (eqb (ownerOf (view (now (b .entry))) i) 0)) 1) × (n ≤ 1) ⌝ }
+{
+    if get16(b, OWNER, i) == 0 {
+        return 0;
+    }
+    1
+}
+
+fn count_used(b: &[u8]) -> usize
+    requires { ⌜ length (now b) ≡ size ⌝ }
+    ensures { λ n. ⌜ n ≡ usedBlocks (view (now (b .entry))) ⌝ }
+{
+    let mut sum: usize = 0;
+    let mut i: usize = 0;
+    while i < BLOCKS {
+        sum += used(b, i);
+        i += 1;
+    }
+    sum
+}
+
+// The blocks that row r needs: none, if it is no segment.
+fn needed(b: &[u8], r: usize) -> usize
+    requires { ⌜ (length (now b) ≡ size) × (r < rowCount) ⌝ }
+    ensures { λ n. ⌜ (n ≡ when (eqb (codeOf (view (now (b .entry))) r) 3) (blocksOf (lenOf (view (now (b .entry))) r))) × (n < 1025) ⌝ }
+{
+    if get8(b, KIND, r) != 3 {
+        return 0;
+    }
+    blocks_of(get16(b, LEN, r))
+}
+
+fn count_needed(b: &[u8]) -> usize
+    requires { ⌜ length (now b) ≡ size ⌝ }
+    ensures { λ n. ⌜ n ≡ neededBlocks (view (now (b .entry))) ⌝ }
+{
+    let mut sum: usize = 0;
+    let mut i: usize = 0;
+    while i < ROWS {
+        sum += needed(b, i);
+        i += 1;
+    }
+    sum
+}
+
+// ---- numbers of blocks
+
+// Where each segment's blocks begin.
+fn place(b: &[u8], offsets: &mut [u16; ROWS])
+    requires { ⌜ (length (now b) ≡ size) × (neededBlocks (view (now b)) ≤ blockCount) × (now offsets ≡ replicate rowCount 0) ⌝ }
+    ensures { λ _. ⌜ Offsets (view (now (b .entry))) rowCount (now (offsets .exit)) ⌝ }
+{
+    let mut sum: usize = 0;
+    let mut i: usize = 0;
+    while i < ROWS {
+        offsets[i] = small(sum);
+        sum += needed(b, i);
+        i += 1;
+    }
+}
+
+fn owned(b: &[u8], i: usize) -> bool
+    requires { ⌜ (length (now b) ≡ size) × (i < blockCount) × (ownerOf (view (now b)) i ≡ 0 → ⊥) ⌝ }
+    ensures { λ t. ⌜ t ≡ ownedB (view (now (b .entry))) i ⌝ }
+{
+    let owner = row_of(get16(b, OWNER, i));
+    if ROWS <= owner {
+        return false;
+    }
+    if get8(b, KIND, owner) != 3 {
+        return false;
+    }
+    small_index(get8(b, INDEX, i)) < blocks_of(get16(b, LEN, owner))
+}
+
+fn number(b: &[u8], offsets: &[u16; ROWS], i: usize) -> usize
+    requires { ⌜ (length (now b) ≡ size) × (i < blockCount) × (ownerOf (view (now b)) i ≡ 0 → ⊥) × (ownedB (view (now b)) i ≡ true) × (neededBlocks (view (now b)) ≤ blockCount) × Offsets (view (now b)) rowCount (now offsets) ⌝ }
+    ensures { λ n. ⌜ (n ≡ numberOf (view (now (b .entry))) i) × (n < blockCount) ⌝ }
+{
+    let owner = row_of(get16(b, OWNER, i));
+    index(offsets[owner]) + small_index(get8(b, INDEX, i))
+}
+
+// Whether block i is as it should be, where those below it are; if so, its number is seen.
+fn block_ok(b: &[u8], offsets: &[u16; ROWS], seen: &mut [u8; BLOCKS], i: usize) -> bool
+    requires { ⌜ (length (now b) ≡ size) × (i < blockCount) × (neededBlocks (view (now b)) ≤ blockCount) × Offsets (view (now b)) rowCount (now offsets) × (every i (blockB (view (now b))) ≡ true) × Seen (view (now b)) i (now seen) ⌝ }
+    ensures { λ t. ⌜ (t ≡ blockB (view (now (b .entry))) i) × (t ≡ true → Seen (view (now (b .entry))) (i + 1) (now (seen .exit))) ⌝ }
+{
+    if get16(b, OWNER, i) == 0 {
+        return true;
+    }
+    if !owned(b, i) {
+        return false;
+    }
+    let n = number(b, offsets, i);
+    if seen[n] != 0 {
+        return false;
+    }
+    seen[n] = 1;
+    true
+}
+
+fn each_ok(b: &[u8], offsets: &[u16; ROWS], seen: &mut [u8; BLOCKS]) -> bool
+    requires { ⌜ (length (now b) ≡ size) × (neededBlocks (view (now b)) ≤ blockCount) × Offsets (view (now b)) rowCount (now offsets) × (now seen ≡ replicate blockCount 0) ⌝ }
+    ensures { λ t. ⌜ t ≡ every blockCount (blockB (view (now (b .entry)))) ⌝ }
+{
+    let mut i: usize = 0;
+    while i < BLOCKS {
+        if !block_ok(b, offsets, seen, i) {
+            return false;
+        }
+        i += 1;
+    }
+    true
+}
+
+pub fn blocks_ok(b: &[u8]) -> bool
+    requires { ⌜ length (now b) ≡ size ⌝ }
+    ensures { λ t. ⌜ t ≡ blocksB (view (now (b .entry))) ⌝ }
+{
+    if count_used(b) != count_needed(b) {
+        return false;
+    }
+    let mut offsets = [0u16; ROWS];
+    place(b, &mut offsets);
+    let mut seen = [0u8; BLOCKS];
+    each_ok(b, &offsets, &mut seen)
+}

@@ -1,0 +1,194 @@
+// Whether each row, by itself, is as in a sound book: ranges, ids and labels.
+ghost use mathlib.Core.Path.{_≡_};
+ghost use mathlib.Core.Bool.{not};
+ghost use Prim.Native.Nat.{_<_, _≤_};
+ghost use lib.ListN.{length};
+ghost use Rattle.tables.specs.Layout.{size, view, rowCount};
+ghost use Rattle.book.specs.Book.{labelOf, clearanceOf, hasId};
+ghost use Rattle.book.specs.Test.{every, rangeN, rangeB, idB, clearB, labelB, rowB, rowsB};
+use super::numbers::wide;
+use labels::Label;
+use labels::WORDS;
+use labels::compare::flows;
+use labels::form::well_formed;
+use tables::CLEAR_DEFAULT;
+use tables::CLEAR_WORDS;
+use tables::FIXED;
+use tables::ID;
+use tables::KIND;
+use tables::LABEL_DEFAULT;
+use tables::LABEL_WORDS;
+use tables::LEN;
+use tables::MASK;
+use tables::QUOTA;
+use tables::ROWS;
+use tables::get_words;
+use tables::get8;
+use tables::get16;
+use tables::get64;
+use tables::next;
+
+const MAX_LENGTH: u16 = 16256;
+
+const MAX_MASK: u8 = 15;
+
+pub const ROOT_QUOTA: u16 = 256;
+
+// One past the last number.
+const NEXT_MOST: u64 = 2305843009213693952;
+
+fn range(code: u8, q: u16, n: u16, fixed: u8, mask: u8) -> bool
+    ensures { λ r. ⌜ r ≡ rangeN code q n fixed mask ⌝ }
+{
+    if code <= 2 {
+        return q == 1;
+    }
+    if q < 1 {
+        return false;
+    }
+    if ROOT_QUOTA < q {
+        return false;
+    }
+    if code == 3 {
+        if MAX_LENGTH < n {
+            return false;
+        }
+        return fixed <= 1;
+    }
+    if code == 4 {
+        return mask <= MAX_MASK;
+    }
+    false
+}
+
+fn range_ok(b: &[u8], r: usize) -> bool
+    requires { ⌜ (length (now b) ≡ size) × (r < rowCount) ⌝ }
+    ensures { λ t. ⌜ t ≡ rangeB (view (now (b .entry))) r ⌝ }
+{
+    range(
+        get8(b, KIND, r),
+        get16(b, QUOTA, r),
+        get16(b, LEN, r),
+        get8(b, FIXED, r),
+        get8(b, MASK, r),
+    )
+}
+
+// Whether row r is live and has this id. Its id is looked at first, since it is seldom the one.
+fn has_id(b: &[u8], id: u64, r: usize) -> bool
+    requires { ⌜ (length (now b) ≡ size) × (r < rowCount) ⌝ }
+    ensures { λ t. ⌜ t ≡ hasId (view (now (b .entry))) id r ⌝ }
+{
+    if get64(b, ID, r) != id {
+        return false;
+    }
+    get8(b, KIND, r) != 0
+}
+
+// Whether no live row below n has this id.
+pub fn id_absent(b: &[u8], n: usize, id: u64) -> bool
+    requires { ⌜ (length (now b) ≡ size) × (n ≤ rowCount) ⌝ }
+    ensures { λ t. ⌜ t ≡ every n (λ r. not (hasId (view (now (b .entry))) id r)) ⌝ }
+{
+    let mut i: usize = 0;
+    while i < n {
+        if has_id(b, id, i) {
+            return false;
+        }
+        i += 1;
+    }
+    true
+}
+
+fn id_ok(b: &[u8], r: usize) -> bool
+    requires { ⌜ (length (now b) ≡ size) × (r < rowCount) ⌝ }
+    ensures { λ t. ⌜ t ≡ idB (view (now (b .entry))) r ⌝ }
+{
+    let id = get64(b, ID, r);
+    if id < 1 {
+        return false;
+    }
+    if next(b) <= id {
+        return false;
+    }
+    id_absent(b, r, id)
+}
+
+fn label_at(b: &[u8], r: usize) -> Label
+    requires { ⌜ (length (now b) ≡ size) × (r < rowCount) ⌝ }
+    ensures { λ l. ⌜ l ≡ labelOf (view (now (b .entry))) r ⌝ }
+{
+    let default = wide(get8(b, LABEL_DEFAULT, r));
+    let words = get_words(b, LABEL_WORDS, r * WORDS);
+    Label { default, words }
+}
+
+fn clearance_at(b: &[u8], r: usize) -> Label
+    requires { ⌜ (length (now b) ≡ size) × (r < rowCount) ⌝ }
+    ensures { λ l. ⌜ l ≡ clearanceOf (view (now (b .entry))) r ⌝ }
+{
+    let default = wide(get8(b, CLEAR_DEFAULT, r));
+    let words = get_words(b, CLEAR_WORDS, r * WORDS);
+    Label { default, words }
+}
+
+// The clearance of the row with this label.
+fn clear_ok(b: &[u8], r: usize, label: Label) -> bool
+    requires { ⌜ (length (now b) ≡ size) × (r < rowCount) × (label ≡ labelOf (view (now b)) r) ⌝ }
+    ensures { λ t. ⌜ t ≡ clearB (view (now (b .entry))) r ⌝ }
+{
+    let clearance = clearance_at(b, r);
+    if !well_formed(clearance, next(b), false) {
+        return false;
+    }
+    flows(label, clearance)
+}
+
+fn label_ok(b: &[u8], r: usize) -> bool
+    requires { ⌜ (length (now b) ≡ size) × (r < rowCount) ⌝ }
+    ensures { λ t. ⌜ t ≡ labelB (view (now (b .entry))) r ⌝ }
+{
+    let code = get8(b, KIND, r);
+    let label = label_at(b, r);
+    if !well_formed(label, next(b), code <= 2) {
+        return false;
+    }
+    if 2 < code {
+        return true;
+    }
+    clear_ok(b, r, label)
+}
+
+fn row_ok(b: &[u8], r: usize) -> bool
+    requires { ⌜ (length (now b) ≡ size) × (r < rowCount) ⌝ }
+    ensures { λ t. ⌜ t ≡ rowB (view (now (b .entry))) r ⌝ }
+{
+    if get8(b, KIND, r) == 0 {
+        return true;
+    }
+    if !range_ok(b, r) {
+        return false;
+    }
+    if !id_ok(b, r) {
+        return false;
+    }
+    label_ok(b, r)
+}
+
+// Whether the next number and every row by itself are in order.
+pub fn rows_ok(b: &[u8]) -> bool
+    requires { ⌜ length (now b) ≡ size ⌝ }
+    ensures { λ t. ⌜ t ≡ rowsB (view (now (b .entry))) ⌝ }
+{
+    if NEXT_MOST < next(b) {
+        return false;
+    }
+    let mut i: usize = 0;
+    while i < ROWS {
+        if !row_ok(b, i) {
+            return false;
+        }
+        i += 1;
+    }
+    true
+}
