@@ -1,0 +1,26 @@
+use mathlib.Core.Path.{sym, _∙_}
+use Rattle.calls.specs.Laws.Access.{asked-writing, asked-reading}
+use borrow.Author.Needs.{needs}
+use Rattle.calls.proofs.access.allowed.Statement.{statement}
+use Rattle.calls.proofs.access.allowed.Tie as tie
+
+may-write-requires : tie.Need-may-write-requires
+may-write-requires c κs = search needs
+
+returns : tie.Need-returns
+returns c = c .may-write .ensures ∙ sym (asked-writing _ _ _ (c .before .if1 .taken))
+
+may-read-requires : tie.Need-may-read-requires
+may-read-requires c κs = search needs
+
+returns-2 : tie.Need-returns-2
+returns-2 c = c .may-read .ensures ∙ sym (asked-reading _ _ _ (c .before .if1 .left))
+
+pub allowed-spec : {M : Type 1} → statement M
+allowed-spec =
+    tie.close
+    (tie.spec
+    may-write-requires
+    returns
+    may-read-requires
+    returns-2)

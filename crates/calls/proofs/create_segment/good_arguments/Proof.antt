@@ -1,0 +1,35 @@
+use mathlib.Core.Path.{refl, sym, _∙_}
+use borrow.Author.Tests.{not-true, not-false}
+use Rattle.calls.specs.Laws.Creating.{first-bad, first-good}
+use borrow.Author.Needs.{needs}
+use Rattle.calls.proofs.create_segment.good_arguments.Statement.{statement}
+use Rattle.calls.proofs.create_segment.good_arguments.Tie as tie
+
+good-label-requires : tie.Need-good-label-requires
+good-label-requires c κs = search needs
+
+returns : tie.Need-returns
+returns c = first-bad _ _ (sym (c .before .good-label .ensures) ∙ not-true (c .before .good-label .result) (c .if1 .taken))
+
+good-text-requires : tie.Need-good-text-requires
+good-text-requires c κs = search needs
+
+returns-2 : tie.Need-returns-2
+returns-2 c =
+    first-good _ _ _ (sym (c .before .before .before .good-label .ensures) ∙ not-false (c .before .before .before .good-label .result) (c .before .before .if1 .left))
+    (first-bad _ _ (sym (c .before .good-text .ensures) ∙ not-true (c .before .good-text .result) (c .if2 .taken)))
+
+returns-3 : tie.Need-returns-3
+returns-3 c =
+    first-good _ _ _ (sym (c .before .before .before .good-label .ensures) ∙ not-false (c .before .before .before .good-label .result) (c .before .before .if1 .left))
+    (first-good _ _ _ (sym (c .before .good-text .ensures) ∙ not-false (c .before .good-text .result) (c .if2 .left)) refl)
+
+pub good-arguments-spec : {M : Type 1} → statement M
+good-arguments-spec =
+    tie.close
+    (tie.spec
+    good-label-requires
+    returns
+    good-text-requires
+    returns-2
+    returns-3)

@@ -1,0 +1,26 @@
+use borrow.Author.Needs.{needs}
+use native.Mathlib.Omega.{arith}
+use Rattle.calls.specs.Laws.LookBytes.{hidden-put}
+use Rattle.calls.proofs.look.put_hidden.Statement.{statement}
+use Rattle.calls.proofs.look.put_hidden.Tie as tie
+
+clear-requires : tie.Need-clear-requires
+clear-requires c κs = search needs
+
+slice-write-out : tie.Need-slice-write-out
+slice-write-out c = omega (arith, c .before .before .before .before .before .pre)
+
+same-length : tie.Need-same-length
+same-length c = search needs
+
+returns : tie.Need-returns
+returns c = hidden-put (c .before .before .clear .last .0) _ _ (c .before .before .before .before .before .pre) (c .before .before .clear .ensures)
+
+pub put-hidden-spec : {M : Type 1} → statement M
+put-hidden-spec =
+    tie.close
+    (tie.spec
+    clear-requires
+    slice-write-out
+    same-length
+    returns)

@@ -1,0 +1,73 @@
+-- From what a call asks first to the verdict.
+use Prim.Native.Nat.{ℕ, _≤_, _<_}
+use native.Mathlib.Omega.{arith}
+use mathlib.Core.Bool.{Bool, true, false, _&&_}
+use mathlib.Core.Logic.{_⊎_, ⊎-elim}
+use mathlib.Core.Path.{_≡_, refl, sym, ap, subst, _∙_}
+use mathlib.Core.List.{List}
+use lib.Dec.{leb}
+use Rattle.labels.specs.declared.Label.{Label}
+use Rattle.rules.specs.Kernel.{Obj, World, Verdict, refuse, Call, judge, isThread, goodArguments, lastNumber}
+use Rattle.rules.specs.Sound as rules
+use Rattle.tables.specs.Layout.{View, view, rowCount}
+use Rattle.book.specs.declared.Found.the-variants.{At, Nothing}
+use Rattle.book.specs.Book.{nextOf, codeOf, idOf, labelOf, clearanceOf, objectAt, worldOf, rowOf}
+use Rattle.book.specs.Find.{threadRow}
+use Rattle.book.specs.Placed.{Placed}
+use Rattle.book.specs.Sound.{Sound, Live}
+use Rattle.book.specs.Test.{areasB}
+use Rattle.book.specs.Laws.Find.{kind-is, row-low, thread-found, thread-none}
+use Rattle.book.specs.Laws.Tie.{row-is, object-label, object-clearance, code-live}
+use Rattle.book.specs.Laws.WorldSound.{placed}
+use Rattle.calls.specs.Outcome.{verdictOn, Ready}
+use Rattle.calls.specs.Begun.{Caller, BegunAs}
+use Rattle.calls.specs.Laws.Prelude.{book-sound, is-sound, verdict-one, verdict-two, verdict-three, verdict-four, verdict-judged}
+
+module _ (b area : List ℕ) (c : ℕ) (x : Call) where
+  -- stopped: the verdict is that refusal, and it is 1 or 2
+  pub stopped-verdict : (k : ℕ) → ((k ≡ 1) × (areasB b area ≡ false)) ⊎ ((k ≡ 2) × (areasB b area ≡ true) × (lastNumber < nextOf (view b)))
+      → (verdictOn b area c x ≡ refuse k) × (k ≤ 2)
+  stopped-verdict k =
+      ⊎-elim {C = (verdictOn b area c x ≡ refuse k) × (k ≤ 2)}
+      (λ p. (verdict-one b area c x (p .1) ∙ ap refuse (sym (p .0)), omega (arith, p .0)))
+      (λ p. (verdict-two b area c x (p .1) (p .2) ∙ ap refuse (sym (p .0)), omega (arith, p .0)))
+
+  -- nobody: 3
+  pub nobody-verdict : (ready : Ready b area) → threadRow (view b) c ≡ Nothing → verdictOn b area c x ≡ refuse 3
+  nobody-verdict ready e = verdict-three b area c x ready (thread-none (view b) area c e)
+
+-- what is known of the caller
+module _ (b area : List ℕ) (c t : ℕ) (by : Caller b area c t) where
+  pub sound-by-caller : Sound (view b)
+  sound-by-caller = book-sound b area (by .ready .areas)
+
+  pub placed-by-caller : Placed (view b)
+  placed-by-caller = placed (view b) sound-by-caller
+
+  pub caller-is-thread : isThread ((worldOf (view b) area .obj c) .kind) ≡ true
+  caller-is-thread = thread-found (view b) area c t (by .row) .0
+
+  pub caller-object : worldOf (view b) area .obj c ≡ objectAt (view b) area t
+  caller-object = thread-found (view b) area c t (by .row) .1
+
+  caller-code : codeOf (view b) t ≡ 1
+  caller-code = kind-is 1 (view b) c t (by .row) .1
+
+  -- its label and clearance are those of its row
+  pub caller-label : (worldOf (view b) area .obj c) .label ≡ labelOf (view b) t
+  caller-label = ap (λ (o : Obj). o .label) caller-object ∙ object-label (view b) area t
+
+  pub caller-clearance : (worldOf (view b) area .obj c) .clearance ≡ clearanceOf (view b) t
+  caller-clearance =
+      ap (λ (o : Obj). o .clearance) caller-object
+      ∙ object-clearance (view b) area t (λ z. omega (arith, caller-code)) (omega (arith, caller-code))
+
+  pub caller-low : t < rowCount
+  caller-low = row-low (view b) c t (kind-is 1 (view b) c t (by .row) .0)
+
+  module _ (x : Call) where
+    pub caller-four : goodArguments (nextOf (view b)) x ≡ false → verdictOn b area c x ≡ refuse 4
+    caller-four = verdict-four b area c x (by .ready) caller-is-thread
+
+    pub caller-judged : goodArguments (nextOf (view b)) x ≡ true → verdictOn b area c x ≡ judge (worldOf (view b) area) (worldOf (view b) area .obj c) c x
+    caller-judged = verdict-judged b area c x (by .ready) caller-is-thread

@@ -1,0 +1,210 @@
+-- Call 15: its arguments, its conditions, and the verdict at each way out of its judging.
+use Prim.Native.Nat.{ℕ, _<_}
+use native.Mathlib.Omega.{arith}
+use mathlib.Core.Bool.{Bool, true, false, _&&_}
+use mathlib.Core.Path.{_≡_, sym, ap, ap₂, _∙_}
+use mathlib.Core.List.{List, [], _∷_}
+use lib.Dec.{eqb}
+use borrow.Author.Tests.{eq-eqb, ne-eqb, eqb-true}
+use Rattle.labels.specs.declared.Label.{Label}
+use Rattle.labels.specs.declared.Rule.the-variants.{FloorFlows, FlowsJoin}
+use Rattle.labels.specs.Core.{compareB, flows, mayRead}
+use Rattle.labels.specs.Core as label
+use Rattle.labels.specs.Core.Formed.{and-l, and-r}
+use Rattle.rules.specs.Kernel.{Obj, refuse, grant, must, judge, entry, isGate, allHold, flow, floorFlow, flowJoin, enterGate, alter, relabel, goodLabel, goodArguments, textSize}
+use Rattle.tables.specs.Layout.{view, rowCount}
+use Rattle.book.specs.declared.find.Entry.the-variants as place
+use Rattle.book.specs.Book.{nextOf, codeOf, labelOf, clearanceOf, worldOf}
+use Rattle.book.specs.Find.{entryPlace}
+use Rattle.book.specs.Laws.Find.{Entered, entry-found, entry-opens, entry-none}
+use Rattle.book.specs.Laws.Tie.{object-label, object-clearance, object-gate, object-entry, object-closure}
+use Rattle.calls.specs.Outcome.{verdictOn}
+use Rattle.calls.specs.Begun.{Caller}
+use Rattle.calls.specs.EnterGate.{goodGate, gateConditions, ToEnter}
+use Rattle.calls.specs.Laws.AllHold.{all-failed, all-passed, all-last, flow-holds, floor-flow-holds, flow-join-holds}
+use Rattle.calls.specs.Laws.Arguments.{good-long, good-default}
+use Rattle.calls.specs.Laws.Begun.{caller-four, caller-judged, caller-label, caller-clearance, caller-low, placed-by-caller}
+use Rattle.calls.specs.Laws.Prelude.{must-passed, must-failed}
+use Rattle.calls.specs.Laws.Relabel.{caller-row}
+
+-- ---- the arguments
+
+module _ (next : ℕ) (lr cr lv : List ℕ) (n : ℕ) where
+  pub label-bad : goodLabel next true lr ≡ false → goodGate next lr cr lv n ≡ false
+  unfolding goodGate
+  label-bad e = ap (λ (x : Bool). x && (goodLabel next false cr && (goodLabel next true lv && eqb n textSize))) e
+
+  module _ (a : goodLabel next true lr ≡ true) where
+    after-label : goodGate next lr cr lv n ≡ (goodLabel next false cr && (goodLabel next true lv && eqb n textSize))
+    unfolding goodGate
+    after-label = ap (λ (x : Bool). x && (goodLabel next false cr && (goodLabel next true lv && eqb n textSize))) a
+
+    pub clearance-bad : goodLabel next false cr ≡ false → goodGate next lr cr lv n ≡ false
+    clearance-bad e = after-label ∙ ap (λ (x : Bool). x && (goodLabel next true lv && eqb n textSize)) e
+
+    module _ (c : goodLabel next false cr ≡ true) where
+      after-clearance : goodGate next lr cr lv n ≡ (goodLabel next true lv && eqb n textSize)
+      after-clearance = after-label ∙ ap (λ (x : Bool). x && (goodLabel next true lv && eqb n textSize)) c
+
+      pub verify-bad : goodLabel next true lv ≡ false → goodGate next lr cr lv n ≡ false
+      verify-bad e = after-clearance ∙ ap (λ (x : Bool). x && eqb n textSize) e
+
+      pub output-asked : goodLabel next true lv ≡ true → goodGate next lr cr lv n ≡ eqb n textSize
+      output-asked e = after-clearance ∙ ap (λ (x : Bool). x && eqb n textSize) e
+
+  -- what good arguments are
+  module _ (good : goodGate next lr cr lv n ≡ true) where
+    pub label-good : goodLabel next true lr ≡ true
+    unfolding goodGate
+    label-good = and-l (goodLabel next true lr) (goodLabel next false cr && (goodLabel next true lv && eqb n textSize)) good
+
+    after-first : (goodLabel next false cr && (goodLabel next true lv && eqb n textSize)) ≡ true
+    unfolding goodGate
+    after-first = and-r (goodLabel next true lr) (goodLabel next false cr && (goodLabel next true lv && eqb n textSize)) good
+
+    pub clearance-good : goodLabel next false cr ≡ true
+    clearance-good = and-l (goodLabel next false cr) (goodLabel next true lv && eqb n textSize) after-first
+
+    after-second : (goodLabel next true lv && eqb n textSize) ≡ true
+    after-second = and-r (goodLabel next false cr) (goodLabel next true lv && eqb n textSize) after-first
+
+    pub verify-good : goodLabel next true lv ≡ true
+    verify-good = and-l (goodLabel next true lv) (eqb n textSize) after-second
+
+    pub output-good : n ≡ textSize
+    output-good = eqb-true n textSize (and-r (goodLabel next true lv) (eqb n textSize) after-second)
+
+  -- tested against a number that is the next
+  pub gate-against : (m : ℕ) (r : Bool) → m ≡ next → r ≡ goodGate m lr cr lv n → goodGate next lr cr lv n ≡ r
+  gate-against m r e t = sym (t ∙ ap (λ (k : ℕ). goodGate k lr cr lv n) e)
+
+-- ---- the conditions, in their order
+
+module _ (mine cleared gate guard taken limit shown : Label) where
+  pub guard-fails : flows mine guard ≡ false → allHold (gateConditions mine cleared gate guard taken limit shown) ≡ false
+  guard-fails e = all-failed _ _ (flow-holds mine guard ∙ e)
+
+  module _ (a : flows mine guard ≡ true) where
+    after-guard : allHold (gateConditions mine cleared gate guard taken limit shown)
+        ≡ allHold (flow mine shown ∷ floorFlow mine gate taken ∷ flow taken limit ∷ flowJoin limit cleared guard ∷ [])
+    after-guard = all-passed _ _ (flow-holds mine guard ∙ a)
+
+    pub verify-fails : flows mine shown ≡ false → allHold (gateConditions mine cleared gate guard taken limit shown) ≡ false
+    verify-fails e = after-guard ∙ all-failed _ _ (flow-holds mine shown ∙ e)
+
+    module _ (v : flows mine shown ≡ true) where
+      after-verify : allHold (gateConditions mine cleared gate guard taken limit shown)
+          ≡ allHold (floorFlow mine gate taken ∷ flow taken limit ∷ flowJoin limit cleared guard ∷ [])
+      after-verify = after-guard ∙ all-passed _ _ (flow-holds mine shown ∙ v)
+
+      pub floor-fails : compareB FloorFlows mine gate taken ≡ false → allHold (gateConditions mine cleared gate guard taken limit shown) ≡ false
+      floor-fails e = after-verify ∙ all-failed _ _ (floor-flow-holds mine gate taken ∙ e)
+
+      module _ (f : compareB FloorFlows mine gate taken ≡ true) where
+        after-floor : allHold (gateConditions mine cleared gate guard taken limit shown) ≡ allHold (flow taken limit ∷ flowJoin limit cleared guard ∷ [])
+        after-floor = after-verify ∙ all-passed _ _ (floor-flow-holds mine gate taken ∙ f)
+
+        pub limit-fails : flows taken limit ≡ false → allHold (gateConditions mine cleared gate guard taken limit shown) ≡ false
+        limit-fails e = after-floor ∙ all-failed _ _ (flow-holds taken limit ∙ e)
+
+        pub join-rests : flows taken limit ≡ true → allHold (gateConditions mine cleared gate guard taken limit shown) ≡ compareB FlowsJoin limit cleared guard
+        join-rests e = after-floor ∙ (all-passed _ _ (flow-holds taken limit ∙ e) ∙ (all-last _ ∙ flow-join-holds limit cleared guard))
+
+  -- asked of these labels by other names
+  pub gate-asked : (mine₂ cleared₂ gate₂ guard₂ taken₂ limit₂ shown₂ : Label) → mine ≡ mine₂ → cleared ≡ cleared₂ → gate ≡ gate₂ → guard ≡ guard₂
+      → taken ≡ taken₂ → limit ≡ limit₂ → shown ≡ shown₂ → (r : Bool) → r ≡ allHold (gateConditions mine cleared gate guard taken limit shown)
+      → r ≡ allHold (gateConditions mine₂ cleared₂ gate₂ guard₂ taken₂ limit₂ shown₂)
+  gate-asked mine₂ cleared₂ gate₂ guard₂ taken₂ limit₂ shown₂ m k g u t l s r e =
+      e ∙ (λ i. allHold (gateConditions (m i) (k i) (g i) (u i) (t i) (l i) (s i)))
+
+-- ---- the verdict
+
+module _ (b area : List ℕ) (c t d g : ℕ) (lr cr lv : List ℕ) (n : ℕ) (by : Caller b area c t) where
+  -- malformed arguments: 4
+  pub gate-four : goodGate (nextOf (view b)) lr cr lv n ≡ false → verdictOn b area c (enterGate d g lr cr lv n) ≡ refuse 4
+  unfolding goodArguments goodGate
+  gate-four e = caller-four b area c t by (enterGate d g lr cr lv n) e
+
+  module _ (good : goodGate (nextOf (view b)) lr cr lv n ≡ true) where
+    judged : verdictOn b area c (enterGate d g lr cr lv n)
+        ≡ must (entry (worldOf (view b) area) (worldOf (view b) area .obj c) d g) 5
+        (must (isGate ((worldOf (view b) area .obj g) .kind)) 6
+        (must (allHold (gateConditions ((worldOf (view b) area .obj c) .label) ((worldOf (view b) area .obj c) .clearance) ((worldOf (view b) area .obj g) .label) ((worldOf (view b) area .obj g) .clearance) (label.labelOf lr) (label.labelOf cr) (label.labelOf lv))) 7
+        (grant ((worldOf (view b) area .obj g) .entry) ((worldOf (view b) area .obj g) .closure) (alter c (relabel (label.labelOf lr) (label.labelOf cr))))))
+    unfolding judge goodArguments goodGate
+    judged = caller-judged b area c t by (enterGate d g lr cr lv n) good
+
+    -- no entry: 5
+    pub gate-none : entryPlace (view b) d g ≡ place.Nothing → verdictOn b area c (enterGate d g lr cr lv n) ≡ refuse 5
+    gate-none e = judged ∙ must-failed _ 5 _ (entry-none (view b) area (worldOf (view b) area .obj c) d g (placed-by-caller b area c t by) e)
+
+    module _ (k r l : ℕ) (e : entryPlace (view b) d g ≡ place.In k r l) where
+      in-it : Entered (view b) area d g k r l
+      in-it = entry-found (view b) d g area k r l e
+
+      pub gate-container-low : k < rowCount
+      gate-container-low = in-it .container-live .low
+
+      pub gate-object-low : r < rowCount
+      gate-object-low = in-it .object-live .low
+
+      opened : entry (worldOf (view b) area) (worldOf (view b) area .obj c) d g ≡ mayRead (labelOf (view b) t) (labelOf (view b) k)
+      opened =
+          entry-opens (view b) area (worldOf (view b) area .obj c) d g k r l e
+          ∙ ap (λ (x : Label). mayRead x (labelOf (view b) k)) (caller-label b area c t by)
+
+      -- an unreadable container: 5
+      pub gate-shut : mayRead (labelOf (view b) t) (labelOf (view b) k) ≡ false → verdictOn b area c (enterGate d g lr cr lv n) ≡ refuse 5
+      gate-shut f = judged ∙ must-failed _ 5 _ (opened ∙ f)
+
+      module _ (f : mayRead (labelOf (view b) t) (labelOf (view b) k) ≡ true) where
+        is-gate : isGate ((worldOf (view b) area .obj g) .kind) ≡ eqb (codeOf (view b) r) 2
+        is-gate = ap (λ (x : Obj). isGate (x .kind)) (in-it .object-object) ∙ object-gate (view b) area r
+
+        -- no gate: 6
+        pub gate-six : (codeOf (view b) r ≡ 2 → ⊥) → verdictOn b area c (enterGate d g lr cr lv n) ≡ refuse 6
+        gate-six ne = judged ∙ (must-passed _ 5 _ (opened ∙ f) ∙ must-failed _ 6 _ (is-gate ∙ ne-eqb (codeOf (view b) r) 2 ne))
+
+        module _ (code : codeOf (view b) r ≡ 2) where
+          its-clearance : (worldOf (view b) area .obj g) .clearance ≡ clearanceOf (view b) r
+          its-clearance = ap (λ (x : Obj). x .clearance) (in-it .object-object) ∙ object-clearance (view b) area r (λ z. omega (arith, code)) (omega (arith, code))
+
+          its-label : (worldOf (view b) area .obj g) .label ≡ labelOf (view b) r
+          its-label = ap (λ (x : Obj). x .label) (in-it .object-object) ∙ object-label (view b) area r
+
+          asked : allHold (gateConditions ((worldOf (view b) area .obj c) .label) ((worldOf (view b) area .obj c) .clearance) ((worldOf (view b) area .obj g) .label) ((worldOf (view b) area .obj g) .clearance) (label.labelOf lr) (label.labelOf cr) (label.labelOf lv))
+              ≡ allHold (gateConditions (labelOf (view b) t) (clearanceOf (view b) t) (labelOf (view b) r) (clearanceOf (view b) r) (label.labelOf lr) (label.labelOf cr) (label.labelOf lv))
+          asked = λ i. allHold (gateConditions (caller-label b area c t by i) (caller-clearance b area c t by i) (its-label i) (its-clearance i) (label.labelOf lr) (label.labelOf cr) (label.labelOf lv))
+
+          from-seven : verdictOn b area c (enterGate d g lr cr lv n)
+              ≡ must (allHold (gateConditions ((worldOf (view b) area .obj c) .label) ((worldOf (view b) area .obj c) .clearance) ((worldOf (view b) area .obj g) .label) ((worldOf (view b) area .obj g) .clearance) (label.labelOf lr) (label.labelOf cr) (label.labelOf lv))) 7
+              (grant ((worldOf (view b) area .obj g) .entry) ((worldOf (view b) area .obj g) .closure) (alter c (relabel (label.labelOf lr) (label.labelOf cr))))
+          from-seven = judged ∙ (must-passed _ 5 _ (opened ∙ f) ∙ must-passed _ 6 _ (is-gate ∙ eq-eqb (codeOf (view b) r) 2 code))
+
+          -- a condition fails: 7
+          pub gate-seven : allHold (gateConditions (labelOf (view b) t) (clearanceOf (view b) t) (labelOf (view b) r) (clearanceOf (view b) r) (label.labelOf lr) (label.labelOf cr) (label.labelOf lv)) ≡ false
+              → verdictOn b area c (enterGate d g lr cr lv n) ≡ refuse 7
+          gate-seven q = from-seven ∙ must-failed _ 7 _ (asked ∙ q)
+
+          -- granted
+          pub to-enter : allHold (gateConditions (labelOf (view b) t) (clearanceOf (view b) t) (labelOf (view b) r) (clearanceOf (view b) r) (label.labelOf lr) (label.labelOf cr) (label.labelOf lv)) ≡ true
+              → ToEnter b area c d g lr cr lv n t r l
+          to-enter q =
+              record {
+                relabels =
+                    record {
+                      granted =
+                          from-seven ∙ (must-passed _ 7 _ (asked ∙ q)
+                          ∙ ap₂ (λ (x : ℕ) (y : List ℕ). grant x y (alter c (relabel (label.labelOf lr) (label.labelOf cr))))
+                          (ap (λ (x : Obj). x .entry) (in-it .object-object) ∙ object-entry (view b) area r code)
+                          (ap (λ (x : Obj). x .closure) (in-it .object-object) ∙ object-closure (view b) area r code));
+                      row = caller-row b area c t by;
+                      low = caller-low b area c t by;
+                      label-fits = good-default (nextOf (view b)) true lr (label-good (nextOf (view b)) lr cr lv n good);
+                      clearance-fits = good-default (nextOf (view b)) false cr (clearance-good (nextOf (view b)) lr cr lv n good);
+                    };
+                sized = output-good (nextOf (view b)) lr cr lv n good;
+                gate-low = gate-object-low;
+                label-long = good-long (nextOf (view b)) true lr (label-good (nextOf (view b)) lr cr lv n good);
+                clearance-long = good-long (nextOf (view b)) false cr (clearance-good (nextOf (view b)) lr cr lv n good);
+              }

@@ -1,0 +1,185 @@
+-- Call 16: the place looked up, the bytes put out, and the verdict at each way out of its judging.
+use Prim.Native.Nat.{ℕ, _+_, _*_, _<_, _≤_}
+use native.Mathlib.Omega.{arith}
+use mathlib.Core.Bool.{Bool, true, false, not, cond, _&&_, _||_}
+use mathlib.Core.Path.{_≡_, refl, sym, ap, ap₂, subst, _∙_}
+use mathlib.Core.List.{List, _∷_, _++_}
+use lib.ListN.{length, replicate}
+use lib.Dec.{eqb, leb}
+use borrow.Author.Tests.{eq-eqb, ne-eqb, eqb-true, eqb-false}
+use Rattle.labels.specs.declared.Label.{Label}
+use Rattle.labels.specs.Core.{mayRead, wordsBytes, wordCount}
+use Rattle.labels.specs.Core.Formed.{formed-default-top}
+use Rattle.rules.specs.Kernel.{Obj, refuse, grant, must, judge, opens, entry, look, keep, kindCode, lookBytes, lookSize, goodArguments}
+use Rattle.tables.specs.Layout.{View, view, rowCount}
+use Rattle.book.specs.declared.Found.the-variants.{At, Nothing}
+use Rattle.book.specs.declared.find.Entry.the-variants as place
+use Rattle.book.specs.Book.{nextOf, codeOf, labelOf, objectAt, worldOf, onFound}
+use Rattle.book.specs.Find.{containerRow, entryPlace}
+use Rattle.book.specs.Placed.{Placed}
+use Rattle.book.specs.Sound.{Live}
+use Rattle.book.specs.Enact.{movedOn, enactView, enactArea}
+use Rattle.book.specs.Laws.Codes.{code-from}
+use Rattle.book.specs.Laws.First.{found-cases, on-at, on-nothing}
+use Rattle.book.specs.Laws.Find.{kind-is, container-found, opens-at, opens-none, entry-found, entry-opens, entry-none}
+use Rattle.book.specs.Laws.Tie.{row-is, object-kind, object-label, object-description, object-thread}
+use Rattle.calls.specs.declared.Answer.the-variants.{Granted}
+use Rattle.calls.specs.Outcome.{verdictOn, Done, Ready}
+use Rattle.calls.specs.Begun.{Caller}
+use Rattle.calls.specs.Look.{lookPlace, shownBytes, hiddenBytes, lookAt, ToLook}
+use Rattle.calls.specs.Laws.Begun.{caller-four, caller-judged, caller-label, caller-low, placed-by-caller, sound-by-caller}
+use Rattle.calls.specs.Laws.Prelude.{must-passed, must-failed, done-granted}
+
+-- ---- the place
+
+-- another object: the entry's place
+pub place-other : (v : View) (d o : ℕ) → (o ≡ d → ⊥) → lookPlace v d o ≡ entryPlace v d o
+unfolding lookPlace
+place-other v d o ne = ap (λ (x : Bool). cond x (onFound (containerRow v d) (λ c. place.In c c 0) place.Nothing) (entryPlace v d o)) (ne-eqb o d ne)
+
+place-own : (v : View) (d o : ℕ) → o ≡ d → lookPlace v d o ≡ onFound (containerRow v d) (λ c. place.In c c 0) place.Nothing
+unfolding lookPlace
+place-own v d o e = ap (λ (x : Bool). cond x (onFound (containerRow v d) (λ c. place.In c c 0) place.Nothing) (entryPlace v d o)) (eq-eqb o d e)
+
+-- the container itself
+pub place-container : (v : View) (d o c : ℕ) → o ≡ d → containerRow v d ≡ At c → lookPlace v d o ≡ place.In c c 0
+place-container v d o c e f = place-own v d o e ∙ on-at (containerRow v d) c (λ c. place.In c c 0) place.Nothing f
+
+pub place-missing : (v : View) (d o : ℕ) → o ≡ d → containerRow v d ≡ Nothing → lookPlace v d o ≡ place.Nothing
+place-missing v d o e f = place-own v d o e ∙ on-nothing (containerRow v d) (λ c. place.In c c 0) place.Nothing f
+
+-- what a place that is found says
+pub record Looked (v : View) (area : List ℕ) (t : Obj) (d o c r : ℕ) : Type 0 where
+  pub opened : (opens (worldOf v area) t d && (eqb o d || (worldOf v area) .linked d o)) ≡ mayRead (t .label) (labelOf v c)
+  pub container-low : c < rowCount
+  pub object-live : Live v r
+  pub object-is : (worldOf v area) .obj o ≡ objectAt v area r
+
+same-or-other : {C : Type 0} (o d : ℕ) → (o ≡ d → C) → ((o ≡ d → ⊥) → C) → C
+same-or-other {C} o d f g = go (eqb o d) refl
+  where
+    go : (x : Bool) → eqb o d ≡ x → C
+    go true e = f (eqb-true o d e)
+    go false e = g (eqb-false o d e)
+
+no-entry : (c r l : ℕ) → place.In c r l ≡ place.Nothing → ⊥
+no-entry c r l e = let z : _≡_ {A = ℕ} 0 1 = cc in omega arith
+
+and-true : (a : Bool) → (a && true) ≡ a
+and-true true = refl
+and-true false = refl
+
+module _ (v : View) (area : List ℕ) (t : Obj) (d o : ℕ) where
+  -- of the container itself, its being open is asked
+  own-asked : o ≡ d → (opens (worldOf v area) t d && (eqb o d || (worldOf v area) .linked d o)) ≡ opens (worldOf v area) t d
+  own-asked e = ap (λ (x : Bool). opens (worldOf v area) t d && (x || (worldOf v area) .linked d o)) (eq-eqb o d e) ∙ and-true (opens (worldOf v area) t d)
+
+  -- of another object, the entry
+  other-asked : (o ≡ d → ⊥) → (opens (worldOf v area) t d && (eqb o d || (worldOf v area) .linked d o)) ≡ entry (worldOf v area) t d o
+  unfolding entry
+  other-asked ne = ap (λ (x : Bool). opens (worldOf v area) t d && (x || (worldOf v area) .linked d o)) (ne-eqb o d ne)
+
+  pub look-none : Placed v → lookPlace v d o ≡ place.Nothing → (opens (worldOf v area) t d && (eqb o d || (worldOf v area) .linked d o)) ≡ false
+  look-none p h =
+      same-or-other o d
+      (λ e. own-asked e ∙ found-cases (containerRow v d)
+      (λ c f. absurd (no-entry c c 0 (sym (place-container v d o c e f) ∙ h)))
+      (λ f. opens-none v area t d f))
+      (λ ne. other-asked ne ∙ entry-none v area t d o p (sym (place-other v d o ne) ∙ h))
+
+  pub look-found : (c r l : ℕ) → lookPlace v d o ≡ place.In c r l → Looked v area t d o c r
+  look-found c r l h =
+      same-or-other o d
+      (λ e. found-cases {C = Looked v area t d o c r} (containerRow v d)
+      (λ k f. let q : place.In k k 0 ≡ place.In c r l = sym (place-container v d o k e f) ∙ h in
+      let x : k ≡ c = cc in
+      let y : k ≡ r = cc in
+      let live = row-is v d k (kind-is 4 v d k f .0) .0 in
+      record {
+        opened = own-asked e ∙ (opens-at v area t d k f ∙ ap (λ (i : ℕ). mayRead (t .label) (labelOf v i)) x);
+        container-low = subst (λ (i : ℕ). i < rowCount) x (live .low);
+        object-live = subst (Live v) y live;
+        object-is = ap ((worldOf v area) .obj) e ∙ (container-found v area d k f .1 ∙ ap (objectAt v area) y);
+      })
+      (λ f. absurd (no-entry c r l (sym h ∙ place-missing v d o e f))))
+      (λ ne. let f = sym (place-other v d o ne) ∙ h in
+      let x = entry-found v d o area c r l f in
+      record {
+        opened = other-asked ne ∙ entry-opens v area t d o c r l f;
+        container-low = x .container-live .low;
+        object-live = x .object-live;
+        object-is = x .object-object;
+      })
+
+-- ---- the bytes
+
+choose : {X : Type 0} (x : Bool) (a b : X) → cond x a b ≡ cond (not x) b a
+choose true a b = refl
+choose false a b = refl
+
+under-cons : (x : Bool) (k : ℕ) (a b : List ℕ) → (k ∷ cond x a b) ≡ cond x (k ∷ a) (k ∷ b)
+under-cons true k a b = refl
+under-cons false k a b = refl
+
+-- what the rules put out of an object is what its row has
+pub look-bytes : (v : View) (area : List ℕ) (mine : Label) (r : ℕ) → codeOf v r ≤ 4 → lookBytes mine (objectAt v area r) ≡ lookAt v mine r
+unfolding lookBytes
+look-bytes v area mine r small =
+    ap₂ (λ (s : List ℕ) (z : List ℕ). s ++ z) (object-description v area r)
+    ((λ i. (kindCode (object-kind v area r i) ∷ cond (object-thread v area r i && not (mayRead mine (object-label v area r i))) (replicate (7 + wordCount * 8) 0) (1 ∷ object-label v area r i .default ∷ (replicate 5 0 ++ wordsBytes (object-label v area r i .words)))))
+    ∙ (ap (λ (k : ℕ). k ∷ cond (eqb (codeOf v r) 1 && not (mayRead mine (labelOf v r))) (replicate (7 + wordCount * 8) 0) (1 ∷ labelOf v r .default ∷ (replicate 5 0 ++ wordsBytes (labelOf v r .words)))) (code-from (codeOf v r) small)
+    ∙ (under-cons (eqb (codeOf v r) 1 && not (mayRead mine (labelOf v r))) (codeOf v r) (replicate (7 + wordCount * 8) 0) (1 ∷ labelOf v r .default ∷ (replicate 5 0 ++ wordsBytes (labelOf v r .words)))
+    ∙ choose (eqb (codeOf v r) 1 && not (mayRead mine (labelOf v r))) (hiddenBytes (codeOf v r)) (shownBytes (codeOf v r) (labelOf v r)))))
+
+-- ---- the verdict
+
+module _ (b area : List ℕ) (c t d o n : ℕ) (by : Caller b area c t) where
+  -- an output of another length: 4
+  pub look-four : (n ≡ lookSize → ⊥) → verdictOn b area c (look d o n) ≡ refuse 4
+  unfolding goodArguments
+  look-four ne = caller-four b area c t by (look d o n) (ne-eqb n lookSize ne)
+
+  module _ (sized : n ≡ lookSize) where
+    judged : verdictOn b area c (look d o n)
+        ≡ must (opens (worldOf (view b) area) (worldOf (view b) area .obj c) d && (eqb o d || (worldOf (view b) area) .linked d o)) 5
+        (grant 0 (lookBytes ((worldOf (view b) area .obj c) .label) (worldOf (view b) area .obj o)) keep)
+    unfolding judge goodArguments
+    judged = caller-judged b area c t by (look d o n) (eq-eqb n lookSize sized)
+
+    -- no such place: 5
+    pub look-missing : lookPlace (view b) d o ≡ place.Nothing → verdictOn b area c (look d o n) ≡ refuse 5
+    look-missing e = judged ∙ must-failed _ 5 _ (look-none (view b) area (worldOf (view b) area .obj c) d o (placed-by-caller b area c t by) e)
+
+    module _ (k r l : ℕ) (e : lookPlace (view b) d o ≡ place.In k r l) where
+      seen : Looked (view b) area (worldOf (view b) area .obj c) d o k r
+      seen = look-found (view b) area (worldOf (view b) area .obj c) d o k r l e
+
+      pub look-container-low : k < rowCount
+      look-container-low = seen .container-low
+
+      readable : (opens (worldOf (view b) area) (worldOf (view b) area .obj c) d && (eqb o d || (worldOf (view b) area) .linked d o)) ≡ mayRead (labelOf (view b) t) (labelOf (view b) k)
+      readable = seen .opened ∙ ap (λ (x : Label). mayRead x (labelOf (view b) k)) (caller-label b area c t by)
+
+      -- an unreadable container: 5
+      pub look-shut : mayRead (labelOf (view b) t) (labelOf (view b) k) ≡ false → verdictOn b area c (look d o n) ≡ refuse 5
+      look-shut f = judged ∙ must-failed _ 5 _ (readable ∙ f)
+
+      -- granted
+      pub to-look : mayRead (labelOf (view b) t) (labelOf (view b) k) ≡ true → ToLook b area c d o n t r l
+      to-look f =
+          record {
+            granted =
+                judged ∙ (must-passed _ 5 _ (readable ∙ f)
+                ∙ (ap₂ (λ (x : Label) (y : Obj). grant 0 (lookBytes x y) keep) (caller-label b area c t by) (seen .object-is)
+                ∙ ap (λ (x : List ℕ). grant 0 x keep) (look-bytes (view b) area (labelOf (view b) t) r (sound-by-caller b area c t by .ranges r (seen .object-live) .code-most))));
+            sized = sized;
+            caller-low = caller-low b area c t by;
+            object-low = seen .object-live .low;
+            label-fits = omega (arith, formed-default-top (nextOf (view b)) (leb (codeOf (view b) r) 2) (labelOf (view b) r .default) (labelOf (view b) r .words) (sound-by-caller b area c t by .labels r (seen .object-live)));
+          }
+
+-- the number moves on and nothing else is changed
+pub look-done : (b area : List ℕ) (c d o n t r l : ℕ) → Ready b area → ToLook b area c d o n t r l → (b′ : List ℕ) → length b′ ≡ length b
+    → view b′ ≡ movedOn (view b) → Done b area c (look d o n) (Granted 0) b′ area
+unfolding enactView enactArea
+look-done b area c d o n t r l ready go b′ long m = done-granted b area c (look d o n) ready b′ long 0 _ keep area (go .granted) m refl

@@ -1,0 +1,100 @@
+-- Call 12: the verdict at each way out of its judging, and what it does.
+use Prim.Native.Nat.{ℕ, _+_, _*_, _-_, _≤_}
+use native.Mathlib.Nat.{add-sub-cancel-left}
+use native.Mathlib.Omega.{arith}
+use mathlib.Core.Bool.{true, false, _&&_}
+use mathlib.Core.Path.{_≡_, refl, sym, ap, _∙_}
+use mathlib.Core.List.{List, []}
+use lib.Dec.{leb}
+use lib.ListN.{length, take, drop}
+use Rattle.rules.specs.Kernel.{refuse, grant, judge, read, keep, goodArguments, answerOf, valueOf, outputOf, blockSize, maxBlock}
+use Rattle.tables.specs.Layout.{view}
+use Rattle.book.specs.Book.{blockAt, rowOf, worldOf}
+use Rattle.book.specs.Enact.{movedOn, enactView, enactArea}
+use Rattle.book.specs.Laws.First.{on-at}
+use Rattle.book.specs.Laws.Tie.{row-is}
+use Rattle.book.specs.Laws.Write.{part-low, read-part}
+use Rattle.calls.specs.Outcome.{verdictOn, Ready}
+use Rattle.calls.specs.Begun.{Caller}
+use Rattle.calls.specs.Part.{partOn, Reached, Beyond}
+use Rattle.calls.specs.Read.{ToRead, PartAt, NoPart, Shown}
+use Rattle.calls.specs.Laws.Access.{segment-bytes}
+use Rattle.calls.specs.Laws.Begun.{caller-four, caller-judged, placed-by-caller}
+use Rattle.calls.specs.Laws.Prelude.{area-long, done-stopped, done-refused, done-granted}
+
+module _ (b area : List ℕ) (c t d s k f n : ℕ) (by : Caller b area c t) where
+  -- no part of a block: 4
+  pub part-four : (leb k maxBlock && leb (f + n) blockSize) ≡ false → verdictOn b area c (read d s k f n) ≡ refuse 4
+  unfolding goodArguments
+  part-four e = caller-four b area c t by (read d s k f n) e
+
+  module _ (good : (leb k maxBlock && leb (f + n) blockSize) ≡ true) where
+    judged : verdictOn b area c (read d s k f n)
+        ≡ partOn b area c d s k f n false (grant 0 (take n (drop (blockSize * k + f) ((worldOf (view b) area .obj s) .bytes))) keep)
+    unfolding judge goodArguments
+    judged = caller-judged b area c t by (read d s k f n) good
+
+    -- what 12 and 13 share refuses
+    pub beyond-no : (m : ℕ) → Beyond b t d s k f n false m → verdictOn b area c (read d s k f n) ≡ refuse m
+    beyond-no m x = judged ∙ x .refused area c by _
+
+    -- granted
+    pub to-read : (p : ℕ) → Reached b t d s k f n false p → ToRead b area c d s k f n p 0 0
+    to-read p x =
+        let r = x .lies .at-row in
+        record {
+          lies = x .lies;
+          granted =
+              judged
+              ∙ x .passes area c by _
+              ∙ ap (λ (y : List ℕ). grant 0 (take n (drop (blockSize * k + f) y)) keep) (segment-bytes b area s r (x .lies .row) (x .lies .code))
+              ∙ ap (λ (y : List ℕ). grant 0 y keep)
+              (read-part (view b) (placed-by-caller b area c t by) r (row-is (view b) s r (x .lies .row) .0) (x .lies .code) k f area
+              (area-long b area (by .ready .areas)) n (x .lies .one) (x .lies .within)
+              ∙ ap (λ (q : ℕ). take n (drop q area)) (sym (x .lies .place)));
+        }
+
+-- ---- as numbers
+
+module _ (b area : List ℕ) (c d s k f n : ℕ) where
+  pub located-stopped : (m : ℕ) → verdictOn b area c (read d s k f n) ≡ refuse m → m ≤ 2 → NoPart b area c d s k f n b m
+  located-stopped m e l = record { refused = e; left = done-stopped b area c (read d s k f n) m e l .left }
+
+  module _ (ready : Ready b area) (b′ : List ℕ) (long : length b′ ≡ length b) (moved : view b′ ≡ movedOn (view b)) where
+    pub located-refused : (m : ℕ) → verdictOn b area c (read d s k f n) ≡ refuse m → 3 ≤ m → NoPart b area c d s k f n b′ m
+    located-refused m e l = record { refused = e; left = done-refused b area c (read d s k f n) ready b′ long m e l moved .left }
+
+    pub located-at : (p j l : ℕ) → ToRead b area c d s k f n p j l → PartAt b area c d s k f n b′ p n
+    unfolding enactView enactArea
+    located-at p j l go =
+        let r = go .lies .at-row in
+        record {
+          granted = go .granted;
+          place = go .lies .place ∙ sym (on-at (rowOf (view b) s) r (λ q. blockSize * blockAt (view b) q k + f) 0 (go .lies .row));
+          count = refl;
+          inside = omega (arith, part-low (view b) r k f n (go .lies .one), go .lies .place, area-long b area (ready .areas));
+          left = done-granted b area c (read d s k f n) ready b′ long 0 (take n (drop p area)) keep area (go .granted) moved refl .left;
+        }
+
+-- ---- as the part itself
+
+module _ (b area : List ℕ) (c d s k f n : ℕ) (b′ : List ℕ) where
+  pub at-shown : (p m : ℕ) → PartAt b area c d s k f n b′ p m → Shown b area c (read d s k f n) 0 0 (take (p + m - p) (drop p area)) b′
+  unfolding answerOf valueOf outputOf
+  at-shown p m h =
+      record {
+        answer-is = sym (ap answerOf (h .granted));
+        value-is = sym (ap valueOf (h .granted));
+        part-is = ap (λ (q : ℕ). take q (drop p area)) (add-sub-cancel-left p m) ∙ sym (ap outputOf (h .granted));
+        left = h .left;
+      }
+
+  pub off-shown : (m : ℕ) → NoPart b area c d s k f n b′ m → Shown b area c (read d s k f n) m 0 [] b′
+  unfolding answerOf valueOf outputOf
+  off-shown m h =
+      record {
+        answer-is = sym (ap answerOf (h .refused));
+        value-is = sym (ap valueOf (h .refused));
+        part-is = sym (ap outputOf (h .refused));
+        left = h .left;
+      }

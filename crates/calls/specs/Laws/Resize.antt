@@ -1,0 +1,105 @@
+-- Call 14: the verdict at each way out of its judging, and what it does.
+use Prim.Native.Nat.{ℕ, _<_, _≤_}
+use native.Mathlib.Omega.{arith}
+use mathlib.Core.Bool.{true}
+use mathlib.Core.Path.{_≡_, sym, ap, subst, _∙_}
+use mathlib.Core.List.{List, []}
+use lib.ListN.{length}
+use lib.Dec.{leb}
+use borrow.Author.Tests.{le-leb, lt-leb}
+use Rattle.rules.specs.Kernel.{refuse, grant, must, judge, resize, resized, alter, rewrite, units, goodArguments, maxLength, lastNumber}
+use Rattle.tables.specs.Layout.{View, view, size, rowCount}
+use Rattle.book.specs.Book.{nextOf, codeOf, quotaOf, bytesOf, worldOf}
+use Rattle.book.specs.Enact.{areaSize, movedOn, lengthened, areaAfter, enactView, enactArea}
+use Rattle.book.specs.Sound.{Sound}
+use Rattle.book.specs.Laws.Lengthened.{lengthened-is}
+use Rattle.book.specs.Laws.Resize.{resized-view, resized-enacted}
+use Rattle.book.specs.Laws.Shapes.{view-shape}
+use Rattle.book.specs.Laws.Tie.{row-is}
+use Rattle.calls.specs.declared.Answer.the-variants.{Granted}
+use Rattle.calls.specs.Outcome.{verdictOn, Ready, Done}
+use Rattle.calls.specs.Begun.{Caller}
+use Rattle.calls.specs.Access.{accessOn, Open, Closed}
+use Rattle.calls.specs.Resize.{ToResize}
+use Rattle.calls.specs.Laws.Access.{open-low, segment-quota, segment-bytes}
+use Rattle.calls.specs.Laws.Begun.{caller-four, caller-judged}
+use Rattle.calls.specs.Laws.Prelude.{must-passed, must-failed, book-long, area-long, book-sound, done-granted}
+
+module _ (b area : List ℕ) (c t d s n : ℕ) (by : Caller b area c t) where
+  -- over its limit: 4
+  pub long-four : maxLength < n → verdictOn b area c (resize d s n) ≡ refuse 4
+  unfolding goodArguments
+  long-four h = caller-four b area c t by (resize d s n) (lt-leb n maxLength h)
+
+  module _ (h : n ≤ maxLength) where
+    judged : verdictOn b area c (resize d s n)
+        ≡ accessOn b area c d s true
+        (must (leb (units n) ((worldOf (view b) area .obj s) .quota)) 13
+        (grant 0 [] (alter s (rewrite (resized n ((worldOf (view b) area .obj s) .bytes))))))
+    unfolding judge goodArguments
+    judged = caller-judged b area c t by (resize d s n) (le-leb n maxLength h)
+
+    -- what 12 to 14 share refuses
+    pub closed-no : (k : ℕ) → Closed b t d s true k → verdictOn b area c (resize d s n) ≡ refuse k
+    closed-no k x = judged ∙ x .refused area c by _
+
+    -- q is the segment's quota, m what the new length uses
+    module _ (r : ℕ) (o : Open b t d s true r) (q m : ℕ) (eq : q ≡ quotaOf (view b) r) (em : m ≡ units n) where
+      from-last : verdictOn b area c (resize d s n)
+          ≡ must (leb (units n) ((worldOf (view b) area .obj s) .quota)) 13
+          (grant 0 [] (alter s (rewrite (resized n ((worldOf (view b) area .obj s) .bytes)))))
+      from-last = judged ∙ o .passes area c by _
+
+      -- not enough spare: 13
+      pub spare-thirteen : q < m → verdictOn b area c (resize d s n) ≡ refuse 13
+      spare-thirteen l =
+          from-last ∙ must-failed _ 13 _ (ap (leb (units n)) (segment-quota b area s r (o .row)) ∙ lt-leb (units n) (quotaOf (view b) r) (omega (arith, eq, em, l)))
+
+      within : m ≤ q → units n ≤ quotaOf (view b) r
+      within l = omega (arith, eq, em, l)
+
+      -- granted
+      pub to-resize : m ≤ q → ToResize b area c d s n r 0 0
+      to-resize l =
+          record {
+            granted =
+                from-last
+                ∙ must-passed _ 13 _ (ap (leb (units n)) (segment-quota b area s r (o .row)) ∙ le-leb (units n) (quotaOf (view b) r) (within l))
+                ∙ ap (λ (x : List ℕ). grant 0 [] (alter s (rewrite (resized n x)))) (segment-bytes b area s r (o .row) (o .code));
+            row = o .row;
+            code = o .code;
+            most = h;
+            fits = within l;
+          }
+
+-- ---- doing it
+
+module _ (b area : List ℕ) (c d s n r j k : ℕ) (ready : Ready b area) (go : ToResize b area c d s n r j k) where
+  low : r < rowCount
+  low = open-low b s r (go .row)
+
+  pub can-resize : (length b ≡ size) × (length area ≡ areaSize) × (r < rowCount) × (codeOf (view b) r ≡ 3) × (n ≤ maxLength) × Sound (view b)
+  can-resize = (book-long b area (ready .areas), area-long b area (ready .areas), low, go .code, go .most, book-sound b area (ready .areas))
+
+  -- b₁ and area₁ are what the resize leaves
+  module _ (b₁ area₁ : List ℕ) (m : view b₁ ≡ lengthened r n (view b))
+      (z : area₁ ≡ areaAfter (view b) (lengthened r n (view b)) r (resized n (bytesOf (view b) area r)) area) where
+    -- the number is still the same
+    pub resized-number : nextOf (view b₁) ≤ lastNumber
+    resized-number =
+        let e = ap (λ (u : View). nextOf u) (m ∙ lengthened-is r n (view b)) in
+        omega (arith, e, ready .number)
+
+    -- resized and moved on, the call is done
+    pub resize-done : (b′ : List ℕ) → length b′ ≡ length b → view b′ ≡ movedOn (view b₁) → Done b area c (resize d s n) (Granted 0) b′ area₁
+    resize-done b′ long e =
+        let i = row-is (view b) s r (go .row) .1 in
+        let x = book-sound b area (ready .areas) in
+        done-granted b area c (resize d s n) ready b′ long 0 [] (alter s (rewrite (resized n (bytesOf (view b) area r)))) area₁ (go .granted)
+        (e ∙ ap movedOn m
+        ∙ subst (λ (o : ℕ). movedOn (lengthened r n (view b)) ≡ enactView (alter o (rewrite (resized n (bytesOf (view b) area r)))) (view b) area) i
+        (sym (resized-view (view b) (view-shape b) x r low (go .code) n (go .fits) area)))
+        (z
+        ∙ subst (λ (o : ℕ). areaAfter (view b) (lengthened r n (view b)) r (resized n (bytesOf (view b) area r)) area
+        ≡ enactArea (alter o (rewrite (resized n (bytesOf (view b) area r)))) (view b) area) i
+        (sym (resized-enacted (view b) (view-shape b) x r low (go .code) n (go .fits) area)))

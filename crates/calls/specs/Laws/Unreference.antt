@@ -1,0 +1,84 @@
+-- Call 8: the verdict at each way out of its judging.
+use Prim.Native.Nat.{ℕ}
+use mathlib.Core.Bool.{true, false}
+use mathlib.Core.Path.{_≡_, refl, ap, ap₂, _∙_}
+use mathlib.Core.List.{List, []}
+use lib.ListN.{length}
+use Rattle.labels.specs.Core.{mayRead, mayWrite}
+use Rattle.rules.specs.Kernel.{refuse, grant, must, judge, entry, allHold, writing, unreference, cut, goodArguments}
+use Rattle.tables.specs.Layout.{view}
+use Rattle.book.specs.Book.{idOf, labelOf, worldOf}
+use Rattle.book.specs.Cut.{cutAt, Cutting}
+use Rattle.book.specs.Enact.{enactView, enactArea}
+use Rattle.book.specs.declared.find.Entry.the-variants as place
+use Rattle.book.specs.Find.{entryPlace}
+use Rattle.book.specs.Laws.Find.{Entered, entry-found}
+use Rattle.calls.specs.declared.Answer.the-variants.{Granted}
+use Rattle.calls.specs.Outcome.{verdictOn, Ready, Done}
+use Rattle.calls.specs.Begun.{Caller}
+use Rattle.calls.specs.Unreference.{ToCut}
+use Rattle.calls.specs.Laws.Begun.{caller-judged, caller-label}
+use Rattle.calls.specs.Laws.Conditions.{writing-only}
+use Rattle.calls.specs.Laws.Entry.{no-entry, opened, container-label}
+use Rattle.calls.specs.Laws.Prelude.{must-passed, must-failed, book-long, area-long, book-sound, done-granted}
+
+module _ (b area : List ℕ) (c t d o : ℕ) (by : Caller b area c t) where
+  judged : verdictOn b area c (unreference d o)
+      ≡ must (entry (worldOf (view b) area) (worldOf (view b) area .obj c) d o) 5
+      (must (allHold (writing ((worldOf (view b) area .obj c) .label) ((worldOf (view b) area .obj d) .label))) 7 (grant 0 [] (cut d o)))
+  unfolding judge goodArguments
+  judged = caller-judged b area c t by (unreference d o) refl
+
+  -- no entry: 5
+  pub none-five : entryPlace (view b) d o ≡ place.Nothing → verdictOn b area c (unreference d o) ≡ refuse 5
+  none-five e = judged ∙ must-failed _ 5 _ (no-entry b area c t d o by e)
+
+  module _ (k r l : ℕ) (e : entryPlace (view b) d o ≡ place.In k r l) where
+    in-it : Entered (view b) area d o k r l
+    in-it = entry-found (view b) d o area k r l e
+
+    writable : allHold (writing ((worldOf (view b) area .obj c) .label) ((worldOf (view b) area .obj d) .label)) ≡ mayWrite (labelOf (view b) t) (labelOf (view b) k)
+    writable =
+        writing-only _ _
+        ∙ ap₂ mayWrite (caller-label b area c t by) (container-label b area c t d o by k r l e)
+
+    -- an unreadable container: 5
+    pub shut-five : mayRead (labelOf (view b) t) (labelOf (view b) k) ≡ false → verdictOn b area c (unreference d o) ≡ refuse 5
+    shut-five f = judged ∙ must-failed _ 5 _ (opened b area c t d o by k r l e ∙ f)
+
+    module _ (f : mayRead (labelOf (view b) t) (labelOf (view b) k) ≡ true) where
+      -- not writable: 7
+      pub write-seven : mayWrite (labelOf (view b) t) (labelOf (view b) k) ≡ false → verdictOn b area c (unreference d o) ≡ refuse 7
+      write-seven g = judged ∙ (must-passed _ 5 _ (opened b area c t d o by k r l e ∙ f) ∙ must-failed _ 7 _ (writable ∙ g))
+
+      -- granted
+      pub to-cut : mayWrite (labelOf (view b) t) (labelOf (view b) k) ≡ true → ToCut b area c d o l 0 0
+      to-cut g =
+          record {
+            granted = judged ∙ (must-passed _ 5 _ (opened b area c t d o by k r l e ∙ f) ∙ must-passed _ 7 _ (writable ∙ g));
+            link-on = in-it .link-on;
+            from-id = ap (idOf (view b)) (in-it .link-from) ∙ in-it .container-id;
+            to-id = ap (idOf (view b)) (in-it .link-to) ∙ in-it .object-id;
+          }
+
+-- ---- doing it
+
+module _ (b area : List ℕ) (c d o l j k : ℕ) (ready : Ready b area) (go : ToCut b area c d o l j k) where
+  -- the book can be cut there
+  pub can-cut : Cutting b area l
+  can-cut =
+      record {
+        entry = record { sized = book-long b area (ready .areas); areaSized = area-long b area (ready .areas); sound = book-sound b area (ready .areas); on = go .link-on };
+        numbers = ready .number;
+      }
+
+  this-cut : cutAt (view b) l ≡ cut d o
+  this-cut = ap₂ cut (go .from-id) (go .to-id)
+
+  -- cut there, the call is done
+  pub cut-done : (b′ area′ : List ℕ) → length b′ ≡ length b → view b′ ≡ enactView (cutAt (view b) l) (view b) area
+      → area′ ≡ enactArea (cutAt (view b) l) (view b) area → Done b area c (unreference d o) (Granted 0) b′ area′
+  cut-done b′ area′ long m n =
+      done-granted b area c (unreference d o) ready b′ long 0 [] (cut d o) area′ (go .granted)
+      (m ∙ ap (λ h. enactView h (view b) area) this-cut)
+      (n ∙ ap (λ h. enactArea h (view b) area) this-cut)

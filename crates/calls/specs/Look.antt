@@ -1,0 +1,43 @@
+-- Call 16: where the object stands, and what is put out of it.
+use Prim.Native.Nat.{ℕ, _+_, _*_, _<_}
+use mathlib.Core.Bool.{Bool, not, cond, _&&_}
+use mathlib.Core.Path.{_≡_}
+use mathlib.Core.List.{List, _∷_, _++_}
+use lib.ListN.{replicate}
+use lib.Dec.{eqb}
+use Rattle.labels.specs.declared.Label.{Label}
+use Rattle.labels.specs.Core.{wordsBytes, wordCount, mayRead}
+use Rattle.rules.specs.Kernel.{grant, look, keep, lookSize}
+use Rattle.tables.specs.Layout.{View, view, rowCount}
+use Rattle.book.specs.declared.find.Entry.{Entry}
+use Rattle.book.specs.declared.find.Entry.the-variants as place
+use Rattle.book.specs.Book.{codeOf, labelOf, descriptionOf, onFound}
+use Rattle.book.specs.Find.{containerRow, entryPlace}
+use Rattle.calls.specs.Outcome.{verdictOn}
+
+-- "The pair (D, D) is an entry only for call 16."
+unfoldable pub lookPlace : View → ℕ → ℕ → Entry
+lookPlace v d o = cond (eqb o d) (onFound (containerRow v d) (λ c. place.In c c 0) place.Nothing) (entryPlace v d o)
+
+-- "A thread's label is shown only if T may read it"
+abbrev pub shownB : ℕ → Label → Label → Bool
+shownB k mine theirs = not (eqb k 1 && not (mayRead mine theirs))
+
+-- "kind; 1 if the label is shown; default code; five zeros; eight words, little-endian", "else zeros there"
+abbrev pub shownBytes : ℕ → Label → List ℕ
+shownBytes k l = k ∷ 1 ∷ l .default ∷ 0 ∷ 0 ∷ 0 ∷ 0 ∷ 0 ∷ wordsBytes (l .words)
+
+abbrev pub hiddenBytes : ℕ → List ℕ
+hiddenBytes k = k ∷ replicate (7 + wordCount * 8) 0
+
+-- what a caller of this label is shown of the object at row r
+abbrev pub lookAt : View → Label → ℕ → List ℕ
+lookAt v mine r = descriptionOf v r ++ cond (shownB (codeOf v r) mine (labelOf v r)) (shownBytes (codeOf v r) (labelOf v r)) (hiddenBytes (codeOf v r))
+
+-- the caller, at row t, is granted to look at the object at row r
+pub record ToLook (b area : List ℕ) (c d o n t r l : ℕ) : Type 0 where
+  pub granted : verdictOn b area c (look d o n) ≡ grant 0 (lookAt (view b) (labelOf (view b) t) r) keep
+  pub sized : n ≡ lookSize
+  pub caller-low : t < rowCount
+  pub object-low : r < rowCount
+  pub label-fits : labelOf (view b) r .default < 256

@@ -1,0 +1,71 @@
+-- What a call says and leaves, of the two areas it is lent. Answer, value and output are what the rules say of the world that the areas spell; book and data
+-- area are the rules' change enacted on what came in. All of it is a function of the input, so there is one outcome.
+use Prim.Native.Nat.{ℕ, _≤_}
+use mathlib.Core.Bool.{Bool, true, false, cond}
+use mathlib.Core.Path.{_≡_}
+use mathlib.Core.List.{List, []}
+use lib.ListN.{length}
+use lib.Dec.{leb}
+use Rattle.rules.specs.Kernel.{Verdict, refuse, grant, must, Call, call, Change, answerOf, valueOf, outputOf, lastNumber}
+use Rattle.tables.specs.Layout.{View, view}
+use Rattle.book.specs.Book.{nextOf, worldOf}
+use Rattle.book.specs.Enact.{movedOn, enactView, enactArea}
+use Rattle.book.specs.Test.{areasB}
+use Rattle.calls.specs.declared.Answer.{Answer}
+use Rattle.calls.specs.declared.Answer.the-variants.{Granted, Refused}
+use Rattle.calls.specs.declared.Judged.{Judged}
+use Rattle.calls.specs.declared.Judged.the-variants.{Go, No, Stop}
+
+-- the verdict on a call, of any two areas; 1: "an area has the wrong length, or the book is unsound"
+unfoldable pub verdictOn : List ℕ → List ℕ → ℕ → Call → Verdict
+verdictOn b area c x = must (areasB b area) 1 (call (worldOf (view b) area) c x)
+
+-- "Every call takes the next number, granted or not, except after answers 1 and 2."
+unfoldable pub bookLeft : Verdict → View → List ℕ → View
+bookLeft (refuse k) v area = cond (leb k 2) v (movedOn v)
+bookLeft (grant n o h) v area = enactView h v area
+
+unfoldable pub areaLeft : Verdict → View → List ℕ → List ℕ
+areaLeft (refuse k) v area = area
+areaLeft (grant n o h) v area = enactArea h v area
+
+-- an output buffer: the rules' bytes if granted, else as it was
+unfoldable pub outputLeft : Verdict → List ℕ → List ℕ
+outputLeft (refuse k) out = out
+outputLeft (grant n o h) out = o
+
+-- page 01's number and value for each case of an answer
+abbrev pub numberOf : Answer → ℕ
+numberOf (Granted v) = 0
+numberOf (Refused k) = k
+
+abbrev pub valueIn : Answer → ℕ
+valueIn (Granted v) = v
+valueIn (Refused k) = 0
+
+-- What a call on areas b and area leaves as b′ and area′. Equal views of books of the right length are equal bytes (tables' view-only); where the areas are refused,
+-- the book is the same bytes whatever its length.
+pub record Left (b area : List ℕ) (c : ℕ) (x : Call) (b′ area′ : List ℕ) : Type 0 where
+  pub length-same : length b′ ≡ length b
+  pub book-kept : areasB b area ≡ false → b′ ≡ b
+  pub book-left : areasB b area ≡ true → view b′ ≡ bookLeft (verdictOn b area c x) (view b) area
+  pub area-left : area′ ≡ areaLeft (verdictOn b area c x) (view b) area
+
+-- A call's whole contract but for an output buffer.
+pub record Done (b area : List ℕ) (c : ℕ) (x : Call) (r : Answer) (b′ area′ : List ℕ) : Type 0 where
+  pub answer : numberOf r ≡ answerOf (verdictOn b area c x)
+  pub value : valueIn r ≡ valueOf (verdictOn b area c x)
+  pub left : Left b area c x b′ area′
+
+-- ---- judging
+
+-- both areas are good and the numbers have not ended: a change can be made
+pub record Ready (b area : List ℕ) : Type 0 where
+  pub areas : areasB b area ≡ true
+  pub number : nextOf (view b) ≤ lastNumber
+
+-- What a judge's answer means for the verdict v: stopped by 1 or 2, refused by a later number, or to be done on the rows and links that `go` speaks of.
+abbrev pub Means : List ℕ → List ℕ → Verdict → (ℕ → ℕ → ℕ → Type 0) → Judged → Type 0
+Means b area v go (Stop k) = (v ≡ refuse k) × (k ≤ 2)
+Means b area v go (No k) = (v ≡ refuse k) × (3 ≤ k) × Ready b area
+Means b area v go (Go i j l) = Ready b area × go i j l

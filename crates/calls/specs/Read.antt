@@ -1,0 +1,49 @@
+-- Call 12: the part of the data area that is read.
+use Prim.Native.Nat.{ℕ, _+_, _*_, _≤_}
+use mathlib.Core.Path.{_≡_}
+use mathlib.Core.List.{List}
+use lib.ListN.{length, take, drop}
+use Rattle.rules.specs.Kernel.{Call, refuse, grant, read, keep, answerOf, valueOf, outputOf, blockSize}
+use Rattle.tables.specs.Layout.{View, view}
+use Rattle.book.specs.Book.{blockAt, onFound, rowOf}
+use Rattle.calls.specs.declared.read.Located.{Located}
+use Rattle.calls.specs.declared.read.Located.the-variants.{At, Off}
+use Rattle.calls.specs.Outcome.{verdictOn, Left}
+use Rattle.calls.specs.Part.{Lies}
+
+-- n bytes from p on are granted to be read
+pub record ToRead (b area : List ℕ) (c d s k f n p j l : ℕ) : Type 0 where
+  pub lies : Lies b s k f n p
+  pub granted : verdictOn b area c (read d s k f n) ≡ grant 0 (take n (drop p area)) keep
+
+-- ---- as numbers
+
+-- where byte f of block k of the segment s lies
+abbrev pub placeIn : View → ℕ → ℕ → ℕ → ℕ
+placeIn v s k f = onFound (rowOf v s) (λ r. blockSize * blockAt v r k + f) 0
+
+-- granted: the part is m bytes from p on, and lies within the data area
+pub record PartAt (b area : List ℕ) (c d s k f n : ℕ) (b′ : List ℕ) (p m : ℕ) : Type 0 where
+  pub granted : verdictOn b area c (read d s k f n) ≡ grant 0 (take m (drop p area)) keep
+  pub place : p ≡ placeIn (view b) s k f
+  pub count : m ≡ n
+  pub inside : p + m ≤ length area
+  pub left : Left b area c (read d s k f n) b′ area
+
+pub record NoPart (b area : List ℕ) (c d s k f n : ℕ) (b′ : List ℕ) (m : ℕ) : Type 0 where
+  pub refused : verdictOn b area c (read d s k f n) ≡ refuse m
+  pub left : Left b area c (read d s k f n) b′ area
+
+abbrev pub LocatedAs : List ℕ → List ℕ → ℕ → ℕ → ℕ → ℕ → ℕ → ℕ → List ℕ → Located → Type 0
+LocatedAs b area c d s k f n b′ (At p m) = PartAt b area c d s k f n b′ p m
+LocatedAs b area c d s k f n b′ (Off m) = NoPart b area c d s k f n b′ m
+
+-- ---- as the part itself
+
+-- "A granted read hands back that part of the data area itself; a refused one hands back an empty part, as does count 0; answer and value go into lent numbers".
+-- The data area is only lent to be read, so it stays as it was.
+pub record Shown (b area : List ℕ) (c : ℕ) (x : Call) (answer value : ℕ) (part b′ : List ℕ) : Type 0 where
+  pub answer-is : answer ≡ answerOf (verdictOn b area c x)
+  pub value-is : value ≡ valueOf (verdictOn b area c x)
+  pub part-is : part ≡ outputOf (verdictOn b area c x)
+  pub left : Left b area c x b′ area

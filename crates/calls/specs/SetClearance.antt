@@ -1,0 +1,15 @@
+-- Call 3: the caller takes the clearance lent.
+use Prim.Native.Nat.{ℕ}
+use mathlib.Core.Path.{_≡_}
+use mathlib.Core.List.{List, []}
+use lib.ListN.{length}
+use Rattle.labels.specs.Core as label
+use Rattle.rules.specs.Kernel.{setClearance}
+use Rattle.tables.specs.Layout.{view}
+use Rattle.book.specs.Book.{labelOf}
+use Rattle.calls.specs.Relabel.{Relabels}
+
+-- the caller, at row t, keeps its label and takes the clearance that l spells
+pub record ToSetClearance (b area : List ℕ) (c : ℕ) (l : List ℕ) (t i j : ℕ) : Type 0 where
+  pub long : length l ≡ label.labelSize
+  pub relabels : Relabels b area c (setClearance l) 0 [] (labelOf (view b) t) (label.labelOf l) t

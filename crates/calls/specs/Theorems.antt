@@ -1,0 +1,5 @@
+-- What is proved of every call.
+pub mod Kept
+pub mod One
+pub mod Refusals
+pub mod OneRead

@@ -1,0 +1,54 @@
+-- Call 12 too has only one outcome, as the part that it hands back and as the numbers that it is found by.
+use Prim.Native.Nat.{ℕ, _<_}
+use native.Mathlib.Omega.{arith}
+use mathlib.Core.Path.{_≡_, refl, sym, ap, ap₂, _∙_}
+use mathlib.Core.List.{List}
+use lib.ListN.{getD}
+use Rattle.rules.specs.Kernel.{Call, Change, Verdict, refuse, grant, answerOf, valueOf}
+use Rattle.calls.specs.declared.Answer.{Answer}
+use Rattle.calls.specs.declared.Answer.the-variants.{Granted, Refused}
+use Rattle.calls.specs.declared.read.Located.{Located}
+use Rattle.calls.specs.declared.read.Located.the-variants.{At, Off}
+use Rattle.calls.specs.Outcome.{verdictOn, numberOf, valueIn, Left, Done}
+use Rattle.calls.specs.Read.{LocatedAs, Shown}
+use Rattle.calls.specs.Theorems.One.{one-outcome}
+
+-- the answer that a verdict asks for
+answerFor : Verdict → Answer
+answerFor (refuse k) = Refused k
+answerFor (grant v o h) = Granted v
+
+number-for : (x : Verdict) → numberOf (answerFor x) ≡ answerOf x
+unfolding answerFor answerOf
+number-for (refuse k) = refl
+number-for (grant v o h) = refl
+
+value-for : (x : Verdict) → valueIn (answerFor x) ≡ valueOf x
+unfolding answerFor valueOf
+value-for (refuse k) = refl
+value-for (grant v o h) = refl
+
+granted-not-refused : (v : ℕ) (o : List ℕ) (h : Change) (k : ℕ) → grant v o h ≡ refuse k → ⊥
+granted-not-refused v o h k e = let z : _≡_ {A = ℕ} 0 1 = cc in omega arith
+
+module _ (b area : List ℕ) (c : ℕ) (x : Call) (b₁ b₂ : List ℕ) (bytes₁ : (k : ℕ) → getD b₁ k 0 < 256) (bytes₂ : (k : ℕ) → getD b₂ k 0 < 256) where
+  done : (b′ : List ℕ) → Left b area c x b′ area → Done b area c x (answerFor (verdictOn b area c x)) b′ area
+  done b′ l = record { answer = number-for (verdictOn b area c x); value = value-for (verdictOn b area c x); left = l }
+
+  one-book : Left b area c x b₁ area → Left b area c x b₂ area → b₁ ≡ b₂
+  one-book p q = one-outcome b area c x _ _ b₁ area b₂ area bytes₁ bytes₂ (done b₁ p) (done b₂ q) .book
+
+  pub one-part : (a₁ v₁ : ℕ) (part₁ : List ℕ) (a₂ v₂ : ℕ) (part₂ : List ℕ) → Shown b area c x a₁ v₁ part₁ b₁ → Shown b area c x a₂ v₂ part₂ b₂
+      → (a₁ ≡ a₂) × (v₁ ≡ v₂) × (part₁ ≡ part₂) × (b₁ ≡ b₂)
+  one-part a₁ v₁ part₁ a₂ v₂ part₂ p q =
+      (p .answer-is ∙ sym (q .answer-is), p .value-is ∙ sym (q .value-is), p .part-is ∙ sym (q .part-is), one-book (p .left) (q .left))
+
+module _ (b area : List ℕ) (c d s k f n : ℕ) (b₁ b₂ : List ℕ) (bytes₁ : (k : ℕ) → getD b₁ k 0 < 256) (bytes₂ : (k : ℕ) → getD b₂ k 0 < 256) where
+  pub one-place : (r t : Located) → LocatedAs b area c d s k f n b₁ r → LocatedAs b area c d s k f n b₂ t → (r ≡ t) × (b₁ ≡ b₂)
+  unfolding answerOf
+  one-place (At p m) (At q l) x y =
+      (ap₂ At (x .place ∙ sym (y .place)) (x .count ∙ sym (y .count)), one-book b area c _ b₁ b₂ bytes₁ bytes₂ (x .left) (y .left))
+  one-place (At p m) (Off l) x y = absurd (granted-not-refused _ _ _ _ (sym (x .granted) ∙ y .refused))
+  one-place (Off m) (At q l) x y = absurd (granted-not-refused _ _ _ _ (sym (y .granted) ∙ x .refused))
+  one-place (Off m) (Off l) x y =
+      (ap Off (ap answerOf (sym (x .refused) ∙ y .refused)), one-book b area c _ b₁ b₂ bytes₁ bytes₂ (x .left) (y .left))

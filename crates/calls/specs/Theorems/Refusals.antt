@@ -1,0 +1,59 @@
+-- Demand 1, once for all calls, over any areas whatever: "A refusal gives its number and the value 0; it leaves the data area .. and the whole book unchanged, save
+-- that the call number moves on by one (not even that after answers 1 and 2)."
+use Prim.Native.Nat.{ℕ, _≤_, _<_}
+use native.Mathlib.Omega.{arith}
+use mathlib.Core.Bool.{Bool, true, false, cond}
+use mathlib.Core.Path.{_≡_, refl, sym, ap, _∙_}
+use mathlib.Core.List.{List}
+use lib.ListN.{length, getD}
+use lib.Dec.{leb}
+use borrow.Author.Tests.{le-leb, lt-leb}
+use Rattle.rules.specs.Kernel.{Call, Verdict, refuse, grant, answerOf, valueOf}
+use Rattle.rules.specs.Laws.Bools.{bool-cases}
+use Rattle.tables.specs.Layout.{view, size}
+use Rattle.tables.specs.Layout.Only.{view-only}
+use Rattle.book.specs.Enact.{movedOn}
+use Rattle.book.specs.Test.{areasB}
+use Rattle.calls.specs.declared.Answer.{Answer}
+use Rattle.calls.specs.Outcome.{verdictOn, bookLeft, areaLeft, outputLeft, numberOf, valueIn, Left, Done}
+use Rattle.calls.specs.Laws.Prelude.{book-long, verdict-one}
+
+-- a verdict whose answer is not 0 is a refusal by that number
+refusal : (v : Verdict) → (answerOf v ≡ 0 → ⊥) → v ≡ refuse (answerOf v)
+unfolding answerOf
+refusal (refuse k) n = refl
+refusal (grant v o h) n = absurd (n refl)
+
+module _ (b area : List ℕ) (c : ℕ) (x : Call) (r : Answer) (b′ area′ : List ℕ) (d : Done b area c x r b′ area′) (refused : numberOf r ≡ 0 → ⊥) where
+  verdict : verdictOn b area c x ≡ refuse (numberOf r)
+  verdict = refusal (verdictOn b area c x) (λ e. refused (d .answer ∙ e)) ∙ ap refuse (sym (d .answer))
+
+  -- The value is 0.
+  pub refused-value : valueIn r ≡ 0
+  unfolding valueOf
+  refused-value = d .value ∙ ap valueOf verdict
+
+  -- The data area is as it was,
+  pub refused-area : area′ ≡ area
+  unfolding areaLeft
+  refused-area = d .left .area-left ∙ ap (λ (v : Verdict). areaLeft v (view b) area) verdict
+
+  -- every output buffer too,
+  pub refused-output : (out : List ℕ) → outputLeft (verdictOn b area c x) out ≡ out
+  unfolding outputLeft
+  refused-output out = ap (λ (v : Verdict). outputLeft v out) verdict
+
+  -- after answers 1 and 2 the whole book,
+  pub stopped-book : numberOf r ≤ 2 → ((k : ℕ) → getD b k 0 < 256) → ((k : ℕ) → getD b′ k 0 < 256) → b′ ≡ b
+  unfolding bookLeft
+  stopped-book n bytes bytes′ =
+      bool-cases (areasB b area)
+      (λ g. view-only b′ b bytes′ bytes
+      (d .left .book-left g ∙ (ap (λ (v : Verdict). bookLeft v (view b) area) verdict ∙ rw (le-leb (numberOf r) 2 n)))
+      (d .left .length-same ∙ book-long b area g) (book-long b area g))
+      (λ g. d .left .book-kept g)
+
+  -- and after any other all of it but the number, which moved on by one.
+  pub refused-book : 2 < numberOf r → areasB b area ≡ true → view b′ ≡ movedOn (view b)
+  unfolding bookLeft
+  refused-book n g = d .left .book-left g ∙ (ap (λ (v : Verdict). bookLeft v (view b) area) verdict ∙ rw (lt-leb (numberOf r) 2 n))

@@ -1,0 +1,71 @@
+// Call 1: a new category, which the caller owns.
+ghost use mathlib.Core.Path.{_≡_};
+ghost use mathlib.Core.Bool.{cond};
+ghost use Prim.Native.Nat.{_<_};
+ghost use Rattle.rules.specs.Kernel.{clearedAt, createCategory};
+ghost use Rattle.calls.specs.CreateCategory.{clearsB, ToOwn};
+ghost use Rattle.calls.specs.Outcome.{Done, Means, verdictOn};
+use super::Answer;
+use super::Begun;
+use super::Judged;
+use super::begin::begin;
+use super::relabel::take_labels;
+use book::alter::move_on;
+use book::find::clearance_of;
+use book::find::label_of;
+use book::find::next_of;
+use labels::Label;
+use labels::Paired;
+use labels::pair::with_pair;
+
+// The clearance with level 3 at the category n: no pair if its default is that.
+fn cleared(c: Label, n: u64) -> Paired
+    requires { ⌜ n < 2305843009213693952 ⌝ }
+    ensures { λ r. ⌜ (r .fits ≡ clearsB c) × (r .label ≡ cond (clearsB c) (clearedAt n c) c) ⌝ }
+{
+    if c.default == Label::LEVEL3 {
+        return Paired {
+            fits: true,
+            label: c,
+        };
+    }
+    with_pair(c, n, Label::LEVEL3)
+}
+
+fn judge(b: &[u8], area: &[u8], caller: u64) -> Judged
+    ensures { λ r. ⌜ Means (now (b .entry)) (now (area .entry)) (verdictOn (now (b .entry)) (now (area .entry)) caller createCategory) (ToOwn (now (b .entry)) (now (area .entry)) caller) r ⌝ }
+{
+    let t = match begin(b, area, caller) {
+        Begun::By(t) => t,
+        Begun::Nobody => return Judged::No(3),
+        Begun::Stopped(k) => return Judged::Stop(k),
+    };
+    let n = next_of(b);
+    let owned = with_pair(label_of(b, t), n, Label::STAR);
+    if !owned.fits {
+        return Judged::No(12);
+    }
+    let clear = cleared(clearance_of(b, t), n);
+    if !clear.fits {
+        return Judged::No(12);
+    }
+    Judged::Go(t, 0, 0)
+}
+
+pub fn create_category(b: &mut [u8], area: &mut [u8], caller: u64) -> Answer
+    ensures { λ r. ⌜ Done (now (b .entry)) (now (area .entry)) caller createCategory r (now (b .exit)) (now (area .exit)) ⌝ }
+{
+    let t = match judge(b, area, caller) {
+        Judged::Go(t, _, _) => t,
+        Judged::No(k) => {
+            move_on(b);
+            return Answer::Refused(k);
+        }
+        Judged::Stop(k) => return Answer::Refused(k),
+    };
+    let n = next_of(b);
+    let owned = with_pair(label_of(b, t), n, Label::STAR);
+    let clear = cleared(clearance_of(b, t), n);
+    take_labels(b, t, owned.label, clear.label);
+    Answer::Granted(n)
+}

@@ -1,0 +1,123 @@
+// Call 4: a container created in a container.
+ghost use mathlib.Core.Bool.{false, _&&_};
+ghost use mathlib.Core.Path.{_≡_};
+ghost use Prim.Native.Nat.{_<_, _≤_};
+ghost use lib.Bits.{bitOr};
+ghost use lib.Dec.{leb};
+ghost use Rattle.rules.specs.Kernel.{goodLabel, goodText, maxMask, maxQuota, createContainer};
+ghost use Rattle.calls.specs.Outcome.{Done};
+ghost use Rattle.calls.specs.CreateContainer.{containerRowOf, ContainerJudged};
+use super::Answer;
+use super::Begun;
+use super::Judged;
+use super::arguments::TEXT_SIZE;
+use super::arguments::good_label;
+use super::arguments::good_text;
+use super::begin::begin;
+use super::creating::MAX_QUOTA;
+use super::creating::admit;
+use super::creating::make_in;
+use super::creating::or_default;
+use super::creating::plain_allowed;
+use book::alter::move_on;
+use book::find::mask_of;
+use book::find::next_of;
+use book::make::NewRow;
+use labels::Label;
+use labels::bytes::from_bytes;
+
+// "Mask: bit 0 thread to bit 3 container, at most 15".
+const MAX_MASK: u64 = 15;
+
+// "Quota 0 in a create means the default: .. container 16".
+const DEFAULT_QUOTA: u64 = 16;
+
+// The place of a container's bit in a mask.
+const PLACE: u64 = 3;
+
+fn good_arguments(next: u64, label: &[u8], description: &[u8], mask: u64, quota: u64) -> bool
+    ensures { λ r. ⌜ r ≡ (goodLabel next false (now (label .entry)) && (goodText (now (description .entry)) && (leb mask maxMask && leb quota maxQuota))) ⌝ }
+{
+    if !good_label(label, next, false) {
+        return false;
+    }
+    if !good_text(description) {
+        return false;
+    }
+    if MAX_MASK < mask {
+        return false;
+    }
+    quota <= MAX_QUOTA
+}
+
+fn judge(
+    b: &[u8],
+    area: &[u8],
+    caller: u64,
+    d: u64,
+    label: &[u8],
+    description: &[u8],
+    mask: u64,
+    quota: u64,
+) -> Judged
+    ensures { λ r. ⌜ ContainerJudged (now (b .entry)) (now (area .entry)) caller d (now (label .entry)) (now (description .entry)) mask quota r ⌝ }
+{
+    let t = match begin(b, area, caller) {
+        Begun::By(t) => t,
+        Begun::Nobody => return Judged::No(3),
+        Begun::Stopped(k) => return Judged::Stop(k),
+    };
+    if !good_arguments(next_of(b), label, description, mask, quota) {
+        return Judged::No(4);
+    }
+    let allowed = plain_allowed(b, t, label);
+    admit(b, t, d, PLACE, or_default(quota, DEFAULT_QUOTA), allowed)
+}
+
+// "a new container also gets D's bits".
+fn joined(mask: u64, outer: u64) -> u64
+    requires { ⌜ (mask ≤ maxMask) × (outer ≤ maxMask) ⌝ }
+    ensures { λ r. ⌜ (r ≡ bitOr mask outer) × (r < 256) ⌝ }
+{
+    mask | outer
+}
+
+fn new_row(label: Label, mask: u64, quota: u64) -> NewRow
+    requires { ⌜ (mask < 256) × (quota < 65536) ⌝ }
+    ensures { λ r. ⌜ r ≡ containerRowOf label mask quota ⌝ }
+{
+    NewRow {
+        kind: 4,
+        mask: mask as u8,
+        quota: quota as u16,
+        entry: 0,
+        label,
+        clearance: Label::of_default(0),
+    }
+}
+
+pub fn create_container(
+    b: &mut [u8],
+    area: &mut [u8],
+    caller: u64,
+    d: u64,
+    label: &[u8],
+    description: &[u8],
+    mask: u64,
+    quota: u64,
+) -> Answer
+    ensures { λ r. ⌜ Done (now (b .entry)) (now (area .entry)) caller (createContainer d (now (label .entry)) (now (description .entry)) mask quota) r (now (b .exit)) (now (area .exit)) ⌝ }
+{
+    let c = match judge(b, area, caller, d, label, description, mask, quota) {
+        Judged::Go(c, _, _) => c,
+        Judged::No(k) => {
+            move_on(b);
+            return Answer::Refused(k);
+        }
+        Judged::Stop(k) => return Answer::Refused(k),
+    };
+    let all = joined(mask, mask_of(b, c));
+    let row = new_row(from_bytes(label), all, or_default(quota, DEFAULT_QUOTA));
+    let closure = [0u8; TEXT_SIZE];
+    Answer::Granted(make_in(b, c, row, description, &closure))
+}

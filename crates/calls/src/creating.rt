@@ -1,0 +1,116 @@
+// What calls 4 to 7 share: whether a thread may create an object in a container, and the making of it.
+ghost use mathlib.Core.Path.{_≡_};
+ghost use Prim.Native.Nat.{_<_, _/_, _%_, _^_};
+ghost use lib.Dec.{eqb};
+ghost use lib.ListN.{length};
+ghost use Rattle.labels.specs.Core as core;
+ghost use Rattle.rules.specs.Kernel.{allHold, orDefault};
+ghost use Rattle.tables.specs.Layout.{view, size, rowCount};
+ghost use Rattle.book.specs.Book.{nextOf, labelOf, clearanceOf};
+ghost use Rattle.book.specs.Make.{objectOf, createdIn, Creating};
+ghost use Rattle.book.specs.Sound.{Sound};
+ghost use Rattle.calls.specs.Creating.{plainConditions, clearedConditions, Admits};
+use super::Judged;
+use book::Found;
+use book::find::clearance_of;
+use book::find::container_of;
+use book::find::label_of;
+use book::find::mask_of;
+use book::find::next_of;
+use book::make::NewRow;
+use book::make::create;
+use book::units::spare_of;
+use labels::bytes::from_bytes;
+use labels::compare::flows;
+use labels::compare::may_read;
+use labels::compare::may_write;
+
+// "Otherwise 1 to 255."
+pub const MAX_QUOTA: u64 = 255;
+
+// "Quota 0 in a create means the default".
+pub fn or_default(quota: u64, default: u64) -> u64
+    ensures { λ r. ⌜ r ≡ orDefault quota default ⌝ }
+{
+    if quota == 0 {
+        return default;
+    }
+    quota
+}
+
+// Whether the mask's bit at `place` is set.
+fn bit_set(mask: u64, place: u64) -> bool
+    requires { ⌜ place < 64 ⌝ }
+    ensures { λ r. ⌜ r ≡ eqb (mask / 2 ^ place % 2) 1 ⌝ }
+{
+    (mask >> place) % 2 == 1
+}
+
+// The label conditions of a new object without a clearance, beside that of writing the container: the thread at row t flows to the label, and that to
+// the thread's clearance.
+pub fn plain_allowed(b: &[u8], t: usize, label: &[u8]) -> bool
+    requires { ⌜ (length (now b) ≡ size) × (t < rowCount) × (length (now label) ≡ core.labelSize) ⌝ }
+    ensures { λ r. ⌜ r ≡ allHold (plainConditions (labelOf (view (now (b .entry))) t) (clearanceOf (view (now (b .entry))) t) (core.labelOf (now (label .entry)))) ⌝ }
+{
+    let new = from_bytes(label);
+    if !flows(label_of(b, t), new) {
+        return false;
+    }
+    flows(new, clearance_of(b, t))
+}
+
+// The same of one with a clearance, which stands between the two.
+pub fn cleared_allowed(b: &[u8], t: usize, label: &[u8], clearance: &[u8]) -> bool
+    requires { ⌜ (length (now b) ≡ size) × (t < rowCount) × (length (now label) ≡ core.labelSize) × (length (now clearance) ≡ core.labelSize) ⌝ }
+    ensures { λ r. ⌜ r ≡ allHold (clearedConditions (labelOf (view (now (b .entry))) t) (clearanceOf (view (now (b .entry))) t) (core.labelOf (now (label .entry))) (core.labelOf (now (clearance .entry)))) ⌝ }
+{
+    let new = from_bytes(label);
+    let most = from_bytes(clearance);
+    if !flows(label_of(b, t), new) {
+        return false;
+    }
+    if !flows(new, most) {
+        return false;
+    }
+    flows(most, clearance_of(b, t))
+}
+
+// Whether the thread at row t may create an object in the container d, by the tests from 5 on: `place` is the bit of the object's kind, and `allowed`
+// says whether its label conditions hold. Granted with the container's row.
+pub fn admit(b: &[u8], t: usize, d: u64, place: u64, quota: u64, allowed: bool) -> Judged
+    requires { ⌜ (length (now b) ≡ size) × Sound (view (now b)) × (t < rowCount) × (place < 64) ⌝ }
+    ensures { λ r. ⌜ Admits (now (b .entry)) t d place quota allowed r ⌝ }
+{
+    let Found::At(c) = container_of(b, d) else {
+        return Judged::No(5);
+    };
+    let mine = label_of(b, t);
+    let theirs = label_of(b, c);
+    if !may_read(mine, theirs) {
+        return Judged::No(5);
+    }
+    if !may_write(mine, theirs) {
+        return Judged::No(7);
+    }
+    if !allowed {
+        return Judged::No(7);
+    }
+    if bit_set(mask_of(b, c), place) {
+        return Judged::No(8);
+    }
+    if spare_of(b, c) < quota {
+        return Judged::No(13);
+    }
+    Judged::Go(c, 0, 0)
+}
+
+// Makes the object in the container at row c; the number it gets.
+pub fn make_in(b: &mut [u8], c: usize, row: NewRow, description: &[u8], closure: &[u8]) -> u64
+    requires { ⌜ Creating (now b) c row (now description) (now closure) ⌝ }
+    ensures { λ r. ⌜ r ≡ nextOf (view (now (b .entry))) ⌝ }
+    ensures { λ _. ⌜ view (now (b .exit)) ≡ createdIn c (objectOf row (now (description .entry)) (now (closure .entry))) (view (now (b .entry))) ⌝ }
+{
+    let id = next_of(b);
+    create(b, c, row, description, closure);
+    id
+}

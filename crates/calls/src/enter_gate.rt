@@ -1,0 +1,165 @@
+// Call 15: the caller enters a gate.
+ghost use mathlib.Core.Path.{_≡_};
+ghost use Prim.Native.Nat.{_<_};
+ghost use lib.ListN.{length};
+ghost use Rattle.labels.specs.Core.{labelSize};
+ghost use Rattle.labels.specs.Core as label;
+ghost use Rattle.rules.specs.Kernel.{allHold, enterGate};
+ghost use Rattle.tables.specs.Layout.{view, size, rowCount};
+ghost use Rattle.book.specs.Book.{labelOf, clearanceOf};
+ghost use Rattle.calls.specs.EnterGate.{goodGate, gateConditions, ToEnter};
+ghost use Rattle.calls.specs.Outcome.{Done, Means, verdictOn, outputLeft};
+use super::Answer;
+use super::Begun;
+use super::Judged;
+use super::arguments::TEXT_SIZE;
+use super::arguments::good_label;
+use super::begin::begin;
+use super::relabel::take_labels;
+use book::alter::move_on;
+use book::find::Entry;
+use book::find::clearance_of;
+use book::find::closure_into;
+use book::find::entry_number_of;
+use book::find::entry_of;
+use book::find::kind_of;
+use book::find::label_of;
+use book::find::next_of;
+use labels::Label;
+use labels::bytes::from_bytes;
+use labels::compare::floor_flows;
+use labels::compare::flows;
+use labels::compare::flows_join;
+use labels::compare::may_read;
+
+// Whether L_R, C_R, L_V and the output's length are as they should be.
+fn good(next: u64, lr: &[u8], cr: &[u8], lv: &[u8], n: usize) -> bool
+    ensures { λ r. ⌜ r ≡ goodGate next (now (lr .entry)) (now (cr .entry)) (now (lv .entry)) n ⌝ }
+{
+    if !good_label(lr, next, true) {
+        return false;
+    }
+    if !good_label(cr, next, false) {
+        return false;
+    }
+    if !good_label(lv, next, true) {
+        return false;
+    }
+    n == TEXT_SIZE
+}
+
+// "T flows to G's clearance and to L_V; floor(T, G) to L_R, L_R to C_R, C_R to join(both clearances)"
+fn allowed(
+    mine: Label,
+    cleared: Label,
+    gate: Label,
+    guard: Label,
+    taken: Label,
+    limit: Label,
+    shown: Label,
+) -> bool
+    ensures { λ r. ⌜ r ≡ allHold (gateConditions mine cleared gate guard taken limit shown) ⌝ }
+{
+    if !flows(mine, guard) {
+        return false;
+    }
+    if !flows(mine, shown) {
+        return false;
+    }
+    if !floor_flows(mine, gate, taken) {
+        return false;
+    }
+    if !flows(taken, limit) {
+        return false;
+    }
+    flows_join(limit, cleared, guard)
+}
+
+// The same of the thread at row t, the gate at row r and the bytes lent.
+fn conditions(b: &[u8], t: usize, r: usize, lr: &[u8], cr: &[u8], lv: &[u8]) -> bool
+    requires { ⌜ (length (now b) ≡ size) × (t < rowCount) × (r < rowCount) × (length (now lr) ≡ labelSize) × (length (now cr) ≡ labelSize) × (length (now lv) ≡ labelSize) ⌝ }
+    ensures { λ x. ⌜ x ≡ allHold (gateConditions (labelOf (view (now (b .entry))) t) (clearanceOf (view (now (b .entry))) t) (labelOf (view (now (b .entry))) r) (clearanceOf (view (now (b .entry))) r) (label.labelOf (now (lr .entry))) (label.labelOf (now (cr .entry))) (label.labelOf (now (lv .entry)))) ⌝ }
+{
+    let mine = label_of(b, t);
+    let cleared = clearance_of(b, t);
+    let gate = label_of(b, r);
+    let guard = clearance_of(b, r);
+    let taken = from_bytes(lr);
+    let limit = from_bytes(cr);
+    let shown = from_bytes(lv);
+    allowed(mine, cleared, gate, guard, taken, limit, shown)
+}
+
+fn judge(
+    b: &[u8],
+    area: &[u8],
+    caller: u64,
+    d: u64,
+    g: u64,
+    lr: &[u8],
+    cr: &[u8],
+    lv: &[u8],
+    n: usize,
+) -> Judged
+    ensures { λ r. ⌜ Means (now (b .entry)) (now (area .entry)) (verdictOn (now (b .entry)) (now (area .entry)) caller (enterGate d g (now (lr .entry)) (now (cr .entry)) (now (lv .entry)) n)) (ToEnter (now (b .entry)) (now (area .entry)) caller d g (now (lr .entry)) (now (cr .entry)) (now (lv .entry)) n) r ⌝ }
+{
+    let t = match begin(b, area, caller) {
+        Begun::By(t) => t,
+        Begun::Nobody => return Judged::No(3),
+        Begun::Stopped(k) => return Judged::Stop(k),
+    };
+    if !good(next_of(b), lr, cr, lv, n) {
+        return Judged::No(4);
+    }
+    let Entry::In {
+        container,
+        object,
+        link,
+    } = entry_of(b, d, g)
+    else {
+        return Judged::No(5);
+    };
+    let mine = label_of(b, t);
+    let theirs = label_of(b, container);
+    if !may_read(mine, theirs) {
+        return Judged::No(5);
+    }
+    if kind_of(b, object) != 2 {
+        return Judged::No(6);
+    }
+    if !conditions(b, t, object, lr, cr, lv) {
+        return Judged::No(7);
+    }
+    Judged::Go(t, object, link)
+}
+
+pub fn enter_gate(
+    b: &mut [u8],
+    area: &mut [u8],
+    caller: u64,
+    d: u64,
+    g: u64,
+    lr: &[u8],
+    cr: &[u8],
+    lv: &[u8],
+    out: &mut [u8],
+) -> Answer
+    ensures { λ r. ⌜ Done (now (b .entry)) (now (area .entry)) caller (enterGate d g (now (lr .entry)) (now (cr .entry)) (now (lv .entry)) (length (now (out .entry)))) r (now (b .exit)) (now (area .exit)) × (now (out .exit) ≡ outputLeft (verdictOn (now (b .entry)) (now (area .entry)) caller (enterGate d g (now (lr .entry)) (now (cr .entry)) (now (lv .entry)) (length (now (out .entry))))) (now (out .entry))) ⌝ }
+{
+    let n = out.len();
+    match judge(b, area, caller, d, g, lr, cr, lv, n) {
+        Judged::Go(t, r, _) => {
+            let value = entry_number_of(b, r);
+            closure_into(b, r, out);
+            let taken = from_bytes(lr);
+            let limit = from_bytes(cr);
+            take_labels(b, t, taken, limit);
+            Answer::Granted(value)
+        }
+        Judged::No(k) => {
+            move_on(b);
+            return Answer::Refused(k);
+        }
+        Judged::Stop(k) => return Answer::Refused(k),
+    }
+}

@@ -1,0 +1,172 @@
+// Call 16: a look at an object.
+ghost use mathlib.Core.Path.{_≡_};
+ghost use mathlib.Core.Bool.{cond};
+ghost use mathlib.Core.List.{[], _∷_};
+ghost use Prim.Native.Nat.{_+_, _*_, _<_};
+ghost use lib.ListN.{length, replicate};
+ghost use lib.Seq.{sets};
+ghost use Rattle.labels.specs.Core.{wordCount};
+ghost use Rattle.rules.specs.Kernel.{look, lookSize};
+ghost use Rattle.tables.specs.Layout.{view, size, rowCount};
+ghost use Rattle.book.specs.Book.{labelOf};
+ghost use Rattle.calls.specs.Look.{lookPlace, shownB, shownBytes, hiddenBytes, lookAt, ToLook};
+ghost use Rattle.calls.specs.Outcome.{Done, Means, verdictOn, outputLeft};
+use super::Answer;
+use super::Begun;
+use super::Judged;
+use super::begin::begin;
+use book::Found;
+use book::alter::move_on;
+use book::find::Entry;
+use book::find::container_of;
+use book::find::description_into;
+use book::find::entry_of;
+use book::find::kind_of;
+use book::find::label_of;
+use labels::Label;
+use labels::bytes::put_words;
+use labels::compare::may_read;
+
+// The bytes of an output.
+pub const LOOK_SIZE: usize = 104;
+
+// "The pair (D, D) is an entry only for call 16."
+fn place_of(b: &[u8], d: u64, o: u64) -> Entry
+    requires { ⌜ length (now b) ≡ size ⌝ }
+    ensures { λ x. ⌜ x ≡ lookPlace (view (now (b .entry))) d o ⌝ }
+{
+    if o != d {
+        return entry_of(b, d, o);
+    }
+    let Found::At(container) = container_of(b, d) else {
+        return Entry::Nothing;
+    };
+    Entry::In {
+        container,
+        object: container,
+        link: 0,
+    }
+}
+
+fn judge(b: &[u8], area: &[u8], caller: u64, d: u64, o: u64, n: usize) -> Judged
+    ensures { λ r. ⌜ Means (now (b .entry)) (now (area .entry)) (verdictOn (now (b .entry)) (now (area .entry)) caller (look d o n)) (ToLook (now (b .entry)) (now (area .entry)) caller d o n) r ⌝ }
+{
+    let t = match begin(b, area, caller) {
+        Begun::By(t) => t,
+        Begun::Nobody => return Judged::No(3),
+        Begun::Stopped(k) => return Judged::Stop(k),
+    };
+    if n != LOOK_SIZE {
+        return Judged::No(4);
+    }
+    let Entry::In {
+        container,
+        object,
+        link,
+    } = place_of(b, d, o)
+    else {
+        return Judged::No(5);
+    };
+    let mine = label_of(b, t);
+    let theirs = label_of(b, container);
+    if !may_read(mine, theirs) {
+        return Judged::No(5);
+    }
+    Judged::Go(t, object, link)
+}
+
+// ---- what is put out
+
+// "A thread's label is shown only if T may read it"
+fn shown(kind: u8, mine: Label, theirs: Label) -> bool
+    ensures { λ r. ⌜ r ≡ shownB kind mine theirs ⌝ }
+{
+    if kind != 1 {
+        return true;
+    }
+    may_read(mine, theirs)
+}
+
+fn clear(out: &mut [u8])
+    ensures { λ _. ⌜ now (out .exit) ≡ replicate (length (now (out .entry))) 0 ⌝ }
+{
+    let mut i: usize = 0;
+    while i < out.len() {
+        out[i] = 0;
+        i += 1;
+    }
+}
+
+// Zeros in place of a label.
+fn put_hidden(out: &mut [u8], kind: u8)
+    requires { ⌜ length (now out) ≡ 8 + wordCount * 8 ⌝ }
+    ensures { λ _. ⌜ now (out .exit) ≡ hiddenBytes kind ⌝ }
+{
+    clear(out);
+    out[0] = kind;
+}
+
+// What stands before a label's words.
+fn put_head(out: &mut [u8], kind: u8, default: u8)
+    requires { ⌜ length (now out) ≡ 8 + wordCount * 8 ⌝ }
+    ensures { λ _. ⌜ now (out .exit) ≡ sets (now (out .entry)) 0 (kind ∷ 1 ∷ default ∷ 0 ∷ 0 ∷ 0 ∷ 0 ∷ 0 ∷ []) ⌝ }
+{
+    out[0] = kind;
+    out[1] = 1;
+    out[2] = default;
+    out[3] = 0;
+    out[4] = 0;
+    out[5] = 0;
+    out[6] = 0;
+    out[7] = 0;
+}
+
+fn put_shown(out: &mut [u8], kind: u8, label: Label)
+    requires { ⌜ (length (now out) ≡ 8 + wordCount * 8) × (label .default < 256) ⌝ }
+    ensures { λ _. ⌜ now (out .exit) ≡ shownBytes kind label ⌝ }
+{
+    put_head(out, kind, label.default as u8);
+    put_words(out, 8, &label.words);
+}
+
+// Kind and label, shown or not.
+fn put_label(out: &mut [u8], kind: u8, mine: Label, theirs: Label)
+    requires { ⌜ (length (now out) ≡ 8 + wordCount * 8) × (theirs .default < 256) ⌝ }
+    ensures { λ _. ⌜ now (out .exit) ≡ cond (shownB kind mine theirs) (shownBytes kind theirs) (hiddenBytes kind) ⌝ }
+{
+    if !shown(kind, mine, theirs) {
+        put_hidden(out, kind);
+        return;
+    }
+    put_shown(out, kind, theirs);
+}
+
+// What the thread at row t is shown of the object at row r.
+fn look_into(b: &[u8], t: usize, r: usize, out: &mut [u8])
+    requires { ⌜ (length (now b) ≡ size) × (t < rowCount) × (r < rowCount) × (length (now out) ≡ lookSize) × (labelOf (view (now b)) r .default < 256) ⌝ }
+    ensures { λ _. ⌜ now (out .exit) ≡ lookAt (view (now (b .entry))) (labelOf (view (now (b .entry))) t) r ⌝ }
+{
+    let mine = label_of(b, t);
+    let theirs = label_of(b, r);
+    let kind = kind_of(b, r);
+    description_into(b, r, &mut out[0..32]);
+    put_label(&mut out[32..104], kind, mine, theirs);
+}
+
+pub fn look(b: &mut [u8], area: &mut [u8], caller: u64, d: u64, o: u64, out: &mut [u8]) -> Answer
+    ensures { λ r. ⌜ Done (now (b .entry)) (now (area .entry)) caller (look d o (length (now (out .entry)))) r (now (b .exit)) (now (area .exit)) × (now (out .exit) ≡ outputLeft (verdictOn (now (b .entry)) (now (area .entry)) caller (look d o (length (now (out .entry))))) (now (out .entry))) ⌝ }
+{
+    let n = out.len();
+    match judge(b, area, caller, d, o, n) {
+        Judged::Go(t, r, _) => {
+            look_into(b, t, r, out);
+            move_on(b);
+            Answer::Granted(0)
+        }
+        Judged::No(k) => {
+            move_on(b);
+            return Answer::Refused(k);
+        }
+        Judged::Stop(k) => return Answer::Refused(k),
+    }
+}

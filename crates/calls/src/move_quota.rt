@@ -1,0 +1,156 @@
+// Call 11: units moved from a container into what it holds, or back.
+ghost use mathlib.Core.Bool.{_||_};
+ghost use mathlib.Core.Path.{_≡_};
+ghost use mathlib.Core.List.{_∷_, _++_};
+ghost use Prim.Native.Nat.{_<_};
+ghost use lib.Dec.{eqb};
+ghost use lib.ListN.{length};
+ghost use Rattle.tables.specs.Layout.{view, size, rowCount};
+ghost use Rattle.book.specs.Sound.{Live, Sound};
+ghost use Rattle.calls.specs.Amount.{moreFor, roomAt};
+ghost use Rattle.calls.specs.MoveQuota.{MeansMoving, isFixed};
+ghost use Rattle.calls.specs.Outcome.{Done};
+ghost use Rattle.rules.specs.Kernel.{allHold, flow, writing, moveQuota};
+use super::Answer;
+use super::Begun;
+use super::Judged;
+use super::amount::Amount;
+use super::amount::moved;
+use super::amount::over_limit;
+use super::amount::units_of;
+use super::begin::begin;
+use book::alter::move_on;
+use book::alter::set_quota;
+use book::find::Entry;
+use book::find::clearance_of;
+use book::find::entry_of;
+use book::find::fixed_of;
+use book::find::kind_of;
+use book::find::label_of;
+use book::find::quota_of;
+use book::units::spare_of;
+use labels::Label;
+use labels::compare::flows;
+use labels::compare::may_read;
+use labels::compare::may_write;
+
+const SEGMENT: u8 = 3;
+
+const CONTAINER: u8 = 4;
+
+// A segment or a container.
+fn movable(kind: u8) -> bool
+    ensures { λ r. ⌜ r ≡ (eqb kind 3 || eqb kind 4) ⌝ }
+{
+    if kind == SEGMENT {
+        return true;
+    }
+    kind == CONTAINER
+}
+
+// "if n < 0, O flows to high(T)"
+fn readable(mine: Label, theirs: Label, units: Amount) -> bool
+    ensures { λ r. ⌜ r ≡ allHold (moreFor units mine theirs) ⌝ }
+{
+    match units {
+        Amount::In(m) => return true,
+        Amount::Out(m) => return may_read(mine, theirs),
+        Amount::Bad => return true,
+    }
+}
+
+// "T may write D; T flows to O, O to T's clearance; if n < 0, O flows to high(T)."
+fn allowed(mine: Label, clear: Label, holder: Label, theirs: Label, units: Amount) -> bool
+    ensures { λ r. ⌜ r ≡ allHold (writing mine holder ++ (flow mine theirs ∷ flow theirs clear ∷ moreFor units mine theirs)) ⌝ }
+{
+    if !may_write(mine, holder) {
+        return false;
+    }
+    if !flows(mine, theirs) {
+        return false;
+    }
+    if !flows(theirs, clear) {
+        return false;
+    }
+    readable(mine, theirs, units)
+}
+
+// Only a segment's quota can be fixed; in other rows the mark is an unused byte.
+fn is_fixed(b: &[u8], r: usize) -> bool
+    requires { ⌜ (length (now b) ≡ size) × (r < rowCount) ⌝ }
+    ensures { λ x. ⌜ x ≡ isFixed (view (now (b .entry))) r ⌝ }
+{
+    if kind_of(b, r) != SEGMENT {
+        return false;
+    }
+    fixed_of(b, r)
+}
+
+// "n > 0 needs spare in D, n < 0 in O."
+fn has_room(b: &[u8], container: usize, object: usize, units: Amount) -> bool
+    requires { ⌜ (length (now b) ≡ size) × Sound (view (now b)) × Live (view (now b)) container × Live (view (now b)) object ⌝ }
+    ensures { λ x. ⌜ x ≡ roomAt units (view (now (b .entry))) container object ⌝ }
+{
+    match units {
+        Amount::In(m) => return m <= spare_of(b, container),
+        Amount::Out(m) => return m <= spare_of(b, object),
+        Amount::Bad => return false,
+    }
+}
+
+fn judge(b: &[u8], area: &[u8], caller: u64, d: u64, o: u64, units: Amount) -> Judged
+    ensures { λ r. ⌜ MeansMoving (now (b .entry)) (now (area .entry)) caller d o units r ⌝ }
+{
+    let t = match begin(b, area, caller) {
+        Begun::By(t) => t,
+        Begun::Nobody => return Judged::No(3),
+        Begun::Stopped(k) => return Judged::Stop(k),
+    };
+    if over_limit(units) {
+        return Judged::No(4);
+    }
+    let Entry::In {
+        container,
+        object,
+        link,
+    } = entry_of(b, d, o)
+    else {
+        return Judged::No(5);
+    };
+    let mine = label_of(b, t);
+    let holder = label_of(b, container);
+    if !may_read(mine, holder) {
+        return Judged::No(5);
+    }
+    if !movable(kind_of(b, object)) {
+        return Judged::No(6);
+    }
+    if !allowed(mine, clearance_of(b, t), holder, label_of(b, object), units) {
+        return Judged::No(7);
+    }
+    if is_fixed(b, object) {
+        return Judged::No(9);
+    }
+    if !has_room(b, container, object, units) {
+        return Judged::No(13);
+    }
+    Judged::Go(object, 0, 0)
+}
+
+pub fn move_quota(b: &mut [u8], area: &mut [u8], caller: u64, d: u64, o: u64, n: i64) -> Answer
+    ensures { λ r. ⌜ Done (now (b .entry)) (now (area .entry)) caller (moveQuota d o n) r (now (b .exit)) (now (area .exit)) ⌝ }
+{
+    let units = units_of(n);
+    let row = match judge(b, area, caller, d, o, units) {
+        Judged::Go(row, _, _) => row,
+        Judged::No(k) => {
+            move_on(b);
+            return Answer::Refused(k);
+        }
+        Judged::Stop(k) => return Answer::Refused(k),
+    };
+    let q = moved(quota_of(b, row), units);
+    set_quota(b, row, q);
+    move_on(b);
+    Answer::Granted(0)
+}

@@ -1,0 +1,95 @@
+// Call 12: part of a segment's block read. What is handed back is that part of the data area itself.
+ghost use Rattle.rules.specs.Kernel as kernel;
+ghost use Rattle.calls.specs.Outcome.{Means, verdictOn};
+ghost use Rattle.calls.specs.Read.{ToRead, LocatedAs, Shown};
+use super::Begun;
+use super::Judged;
+use super::begin::begin;
+use super::part::Part;
+use super::part::find_part;
+use super::part::good_part;
+use book::alter::move_on;
+
+// The place and the count of the part that is read, or the refusal's number.
+pub enum Located {
+    At(usize, usize),
+    Off(u64),
+}
+
+fn judge(
+    b: &[u8],
+    area: &[u8],
+    caller: u64,
+    d: u64,
+    s: u64,
+    k: u64,
+    from: u64,
+    count: u64,
+) -> Judged
+    ensures { λ r. ⌜ Means (now (b .entry)) (now (area .entry)) (verdictOn (now (b .entry)) (now (area .entry)) caller (kernel.read d s k from count)) (ToRead (now (b .entry)) (now (area .entry)) caller d s k from count) r ⌝ }
+{
+    let t = match begin(b, area, caller) {
+        Begun::By(t) => t,
+        Begun::Nobody => return Judged::No(3),
+        Begun::Stopped(n) => return Judged::Stop(n),
+    };
+    if !good_part(k, from, count) {
+        return Judged::No(4);
+    }
+    match find_part(b, t, d, s, k, from, count, false) {
+        Part::At(place) => Judged::Go(place, 0, 0),
+        Part::Shut(n) => Judged::No(n),
+    }
+}
+
+// The call as numbers: where the part lies. The next number moves on.
+pub fn locate(
+    b: &mut [u8],
+    area: &[u8],
+    caller: u64,
+    d: u64,
+    s: u64,
+    k: u64,
+    from: u64,
+    count: u64,
+) -> Located
+    ensures { λ r. ⌜ LocatedAs (now (b .entry)) (now (area .entry)) caller d s k from count (now (b .exit)) r ⌝ }
+{
+    let place = match judge(b, area, caller, d, s, k, from, count) {
+        Judged::Go(place, _, _) => place,
+        Judged::No(n) => {
+            move_on(b);
+            return Located::Off(n);
+        }
+        Judged::Stop(n) => return Located::Off(n),
+    };
+    move_on(b);
+    Located::At(place, count as usize)
+}
+
+pub fn read<'a>(
+    b: &mut [u8],
+    area: &'a [u8],
+    caller: u64,
+    d: u64,
+    s: u64,
+    k: u64,
+    from: u64,
+    count: u64,
+    answer: &mut u64,
+    value: &mut u64,
+) -> &'a [u8]
+    ensures { λ r. ⌜ Shown (now (b .entry)) (now (area .entry)) caller (kernel.read d s k from count) (now (answer .exit)) (now (value .exit)) (now r) (now (b .exit)) ⌝ }
+{
+    *value = 0;
+    match locate(b, area, caller, d, s, k, from, count) {
+        Located::At(place, n) => {
+            *answer = 0;
+            &area[place..place + n]
+        }
+        Located::Off(n) => {
+            *answer = n;
+            &area[..0]
+        }
+    }
+}

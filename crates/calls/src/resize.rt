@@ -1,0 +1,53 @@
+// Call 14: a segment made longer or shorter.
+ghost use Rattle.rules.specs.Kernel as kernel;
+ghost use Rattle.calls.specs.Outcome.{Done, Means, verdictOn};
+ghost use Rattle.calls.specs.Resize.{ToResize};
+use super::Answer;
+use super::Begun;
+use super::Judged;
+use super::access::Opened;
+use super::access::access;
+use super::begin::begin;
+use book::alter::move_on;
+use book::find::quota_of;
+use book::units::units;
+
+// "length up to 16,256"
+const MAX_LENGTH: u64 = 16256;
+
+fn judge(b: &[u8], area: &[u8], caller: u64, d: u64, s: u64, length: u64) -> Judged
+    ensures { λ r. ⌜ Means (now (b .entry)) (now (area .entry)) (verdictOn (now (b .entry)) (now (area .entry)) caller (kernel.resize d s length)) (ToResize (now (b .entry)) (now (area .entry)) caller d s length) r ⌝ }
+{
+    let t = match begin(b, area, caller) {
+        Begun::By(t) => t,
+        Begun::Nobody => return Judged::No(3),
+        Begun::Stopped(k) => return Judged::Stop(k),
+    };
+    if MAX_LENGTH < length {
+        return Judged::No(4);
+    }
+    let row = match access(b, t, d, s, true) {
+        Opened::Row(row) => row,
+        Opened::Shut(k) => return Judged::No(k),
+    };
+    if quota_of(b, row) < units(length) {
+        return Judged::No(13);
+    }
+    Judged::Go(row, 0, 0)
+}
+
+pub fn resize(b: &mut [u8], area: &mut [u8], caller: u64, d: u64, s: u64, length: u64) -> Answer
+    ensures { λ r. ⌜ Done (now (b .entry)) (now (area .entry)) caller (kernel.resize d s length) r (now (b .exit)) (now (area .exit)) ⌝ }
+{
+    let row = match judge(b, area, caller, d, s, length) {
+        Judged::Go(row, _, _) => row,
+        Judged::No(k) => {
+            move_on(b);
+            return Answer::Refused(k);
+        }
+        Judged::Stop(k) => return Answer::Refused(k),
+    };
+    book::resize::resize(b, area, row, length as u16);
+    move_on(b);
+    Answer::Granted(0)
+}

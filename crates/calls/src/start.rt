@@ -1,0 +1,26 @@
+// Start: the root container and its thread in areas that held anything.
+ghost use Rattle.calls.specs.Started.{Started};
+use book::sound::AREA_LEN;
+use tables::is_whole;
+
+// The largest first number: two more are taken at once, and a call must still have one.
+pub const LAST_FIRST: u64 = 2305843009213693949;
+
+pub fn start(b: &mut [u8], area: &mut [u8], first: u64) -> u64
+    ensures { λ r. ⌜ Started (now (b .entry)) (now (area .entry)) first r (now (b .exit)) (now (area .exit)) ⌝ }
+{
+    if !is_whole(b) {
+        return 1;
+    }
+    if area.len() != AREA_LEN {
+        return 1;
+    }
+    if first < 1 {
+        return 4;
+    }
+    if LAST_FIRST < first {
+        return 4;
+    }
+    book::start::start(b, area, first);
+    0
+}

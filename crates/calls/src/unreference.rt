@@ -1,0 +1,57 @@
+// Call 8: a link cut with all that hangs on it.
+ghost use Rattle.calls.specs.Outcome.{Done, Means, verdictOn};
+ghost use Rattle.calls.specs.Unreference.{ToCut};
+ghost use Rattle.rules.specs.Kernel as kernel;
+use super::Answer;
+use super::Begun;
+use super::Judged;
+use super::begin::begin;
+use book::alter::move_on;
+use book::cut::cut_entry;
+use book::find::Entry;
+use book::find::entry_of;
+use book::find::label_of;
+use labels::compare::may_read;
+use labels::compare::may_write;
+
+fn judge(b: &[u8], area: &[u8], caller: u64, d: u64, o: u64) -> Judged
+    ensures { λ r. ⌜ Means (now (b .entry)) (now (area .entry)) (verdictOn (now (b .entry)) (now (area .entry)) caller (kernel.unreference d o)) (ToCut (now (b .entry)) (now (area .entry)) caller d o) r ⌝ }
+{
+    let t = match begin(b, area, caller) {
+        Begun::By(t) => t,
+        Begun::Nobody => return Judged::No(3),
+        Begun::Stopped(k) => return Judged::Stop(k),
+    };
+    let Entry::In {
+        container,
+        object,
+        link,
+    } = entry_of(b, d, o)
+    else {
+        return Judged::No(5);
+    };
+    let mine = label_of(b, t);
+    let theirs = label_of(b, container);
+    if !may_read(mine, theirs) {
+        return Judged::No(5);
+    }
+    if !may_write(mine, theirs) {
+        return Judged::No(7);
+    }
+    Judged::Go(link, 0, 0)
+}
+
+pub fn unreference(b: &mut [u8], area: &mut [u8], caller: u64, d: u64, o: u64) -> Answer
+    ensures { λ r. ⌜ Done (now (b .entry)) (now (area .entry)) caller (kernel.unreference d o) r (now (b .exit)) (now (area .exit)) ⌝ }
+{
+    let link = match judge(b, area, caller, d, o) {
+        Judged::Go(link, _, _) => link,
+        Judged::No(k) => {
+            move_on(b);
+            return Answer::Refused(k);
+        }
+        Judged::Stop(k) => return Answer::Refused(k),
+    };
+    cut_entry(b, area, link);
+    Answer::Granted(0)
+}

@@ -1,0 +1,69 @@
+// Call 13: bytes written into part of a segment's block.
+ghost use Rattle.rules.specs.Kernel as kernel;
+ghost use Rattle.calls.specs.Outcome.{Done, Means, verdictOn};
+ghost use Rattle.calls.specs.Write.{ToWrite};
+use super::Answer;
+use super::Begun;
+use super::Judged;
+use super::begin::begin;
+use super::part::Part;
+use super::part::find_part;
+use super::part::good_part;
+use book::alter::move_on;
+use book::area::write_area;
+
+fn judge(
+    b: &[u8],
+    area: &[u8],
+    caller: u64,
+    d: u64,
+    s: u64,
+    k: u64,
+    from: u64,
+    count: u64,
+    bytes: &[u8],
+) -> Judged
+    ensures { λ r. ⌜ Means (now (b .entry)) (now (area .entry)) (verdictOn (now (b .entry)) (now (area .entry)) caller (kernel.write d s k from count (now (bytes .entry)))) (ToWrite (now (b .entry)) (now (area .entry)) caller d s k from count (now (bytes .entry))) r ⌝ }
+{
+    let t = match begin(b, area, caller) {
+        Begun::By(t) => t,
+        Begun::Nobody => return Judged::No(3),
+        Begun::Stopped(n) => return Judged::Stop(n),
+    };
+    if !good_part(k, from, count) {
+        return Judged::No(4);
+    }
+    if bytes.len() as u64 != count {
+        return Judged::No(4);
+    }
+    match find_part(b, t, d, s, k, from, count, true) {
+        Part::At(place) => Judged::Go(place, 0, 0),
+        Part::Shut(n) => Judged::No(n),
+    }
+}
+
+pub fn write(
+    b: &mut [u8],
+    area: &mut [u8],
+    caller: u64,
+    d: u64,
+    s: u64,
+    k: u64,
+    from: u64,
+    count: u64,
+    bytes: &[u8],
+) -> Answer
+    ensures { λ r. ⌜ Done (now (b .entry)) (now (area .entry)) caller (kernel.write d s k from count (now (bytes .entry))) r (now (b .exit)) (now (area .exit)) ⌝ }
+{
+    let place = match judge(b, area, caller, d, s, k, from, count, bytes) {
+        Judged::Go(place, _, _) => place,
+        Judged::No(n) => {
+            move_on(b);
+            return Answer::Refused(n);
+        }
+        Judged::Stop(n) => return Answer::Refused(n),
+    };
+    write_area(area, place, bytes);
+    move_on(b);
+    Answer::Granted(0)
+}

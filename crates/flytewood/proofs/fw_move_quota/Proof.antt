@@ -1,0 +1,24 @@
+use mir.Facts.{toZ-ofZ}
+use Rattle.flytewood.specs.Said.{said}
+use borrow.Author.Needs.{needs}
+use Rattle.flytewood.proofs.fw_move_quota.Statement.{statement}
+use Rattle.flytewood.proofs.fw_move_quota.Tie as tie
+
+move-quota-requires : tie.Need-move-quota-requires
+move-quota-requires c κs = search needs
+
+spread-requires : tie.Need-spread-requires
+spread-requires c κs = search needs
+
+same-length : tie.Need-same-length
+same-length c = search needs
+
+same-length-2 : tie.Need-same-length-2
+same-length-2 c = search needs
+
+returns : tie.Need-returns
+returns c = said _ _ _ _ _ _ _ _ _ (c .spread .ensures .0) (c .spread .ensures .1) (rw (toZ-ofZ (c .before .before .before .before .before .before .before .before .before .before .before .fits .n)) at (c .before .before .before .before .before .before .move-quota .ensures))
+
+pub fw-move-quota-spec : {M : Type 1} → statement M
+fw-move-quota-spec =
+    tie.close (tie.spec move-quota-requires spread-requires same-length same-length-2 returns)
