@@ -13,7 +13,7 @@ use Rattle.tables.specs.Layout.{View, rowCount, linkCount, blockCount, empty, o
 use Rattle.book.specs.Book.{nextOf, rootOf, idOf, codeOf, lenOf, markOf, fromOf, toOf, ownerOf, indexOf, blocksOf, first, onFound, rowOf, collect, worldOf}
 use Rattle.book.specs.declared.Found.{Found}
 
--- the bytes of the data area: 256 blocks of 64
+-- "the data area of 16,384 bytes, which is 256 blocks of 64"
 abbrev pub areaSize : ℕ
 areaSize = blockCount * blockSize
 

@@ -12,10 +12,7 @@ use Rattle.rules.specs.Kernel.{lastNumber, rootQuota, maxMask, maxLength, units
 use Rattle.tables.specs.Layout.{View, view, size, rowCount, linkCount, blockCount}
 use Rattle.book.specs.Book.{nextOf, rootOf, idOf, codeOf, maskOf, fixedOf, quotaOf, lenOf, labelOf, clearanceOf, markOf, fromOf, toOf, ownerOf, indexOf, blocksOf, hasId}
 use Rattle.book.specs.Sound.{linksTo, chargedTo}
-
--- "the data area of 16,384 bytes, which is 256 blocks of 64"
-abbrev pub areaSize : ℕ
-areaSize = 16384
+use Rattle.book.specs.Enact.{areaSize}
 
 -- t holds of every index below n
 unfoldable pub every : ℕ → (ℕ → Bool) → Bool

@@ -4,9 +4,10 @@ ghost use Prim.Native.Nat.{_<_, _*_};
 ghost use lib.ListN.{length};
 ghost use Rattle.rules.specs.Kernel.{textSize};
 ghost use Rattle.tables.specs.Layout.{rowCount, linkCount, size, view, runT};
-ghost use Rattle.book.specs.Enact.{descriptionT, closureT, movedOn, freeRow, freeLink, rowFilled, linkFilled};
-ghost use Rattle.book.specs.Make.{objectOf, numbersFilled, placedIn, placeFor, createdIn, linkedIn, Going, Filling, Creating, Linking};
+ghost use Rattle.book.specs.Enact.{descriptionT, closureT, freeRow, freeLink, rowFilled, linkFilled};
+ghost use Rattle.book.specs.Make.{objectOf, numbersFilled, placedIn, placeFor, createdIn, linkedIn, Filling, Creating, Linking};
 use super::Found;
+use super::alter::move_on;
 use super::alter::relabel;
 use labels::Label;
 use tables::CLOSURE;
@@ -20,7 +21,6 @@ use tables::LINK_FROM;
 use tables::LINK_TO;
 use tables::LINKS;
 use tables::MASK;
-use tables::NEXT;
 use tables::QUOTA;
 use tables::ROWS;
 use tables::TEXT_SIZE;
@@ -72,7 +72,7 @@ pub fn free_link(b: &[u8]) -> Found
     Found::Nothing
 }
 
-// ---- a row, a link and the next number
+// ---- a row and a link
 
 fn fill_numbers(b: &mut [u8], r: usize, id: u64, kind: u8, mask: u8, quota: u16, entry: u64)
     requires { ⌜ (length (now b) ≡ size) × (r < rowCount) ⌝ }
@@ -112,15 +112,6 @@ pub fn fill_link(b: &mut [u8], l: usize, c: usize, o: usize)
 {
     put16(b, LINK_FROM, l, (c + 1) as u16);
     put16(b, LINK_TO, l, o as u16);
-}
-
-// The next number moves on by one.
-pub fn move_on(b: &mut [u8])
-    requires { ⌜ Going (now b) ⌝ }
-    ensures { λ _. ⌜ view (now (b .exit)) ≡ movedOn (view (now (b .entry))) ⌝ }
-{
-    let n = next(b);
-    put64(b, NEXT, 0, n + 1);
 }
 
 // ---- the changes

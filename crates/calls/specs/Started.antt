@@ -8,8 +8,7 @@ use lib.Dec.{eqb}
 use Rattle.quotas.specs.Any.{both}
 use Rattle.rules.specs.Kernel.{startable}
 use Rattle.tables.specs.Layout.{view, size}
-use Rattle.book.specs.Enact.{startView, startArea}
-use Rattle.book.specs.Test.{areaSize}
+use Rattle.book.specs.Enact.{areaSize, startView, startArea}
 
 unfoldable pub lengthsRight : List ℕ → List ℕ → Bool
 lengthsRight b area = cond (eqb (length b) size) (eqb (length area) areaSize) false

@@ -14,7 +14,8 @@ use Rattle.rules.specs.Kernel.{lastNumber}
 use Rattle.tables.specs.Layout.{View, view, size, rowCount, linkCount}
 use Rattle.book.specs.Book.{nextOf, rootOf, idOf, codeOf, fixedOf, quotaOf, lenOf, hasId}
 use Rattle.book.specs.Sound.{Live, On, Ends, Root, Sound, linksTo, chargedTo}
-use Rattle.book.specs.Test.{areaSize, every, rowB, linkB, tieB, onceB, rowsB, linksB, soundB, areasB}
+use Rattle.book.specs.Enact.{areaSize}
+use Rattle.book.specs.Test.{every, rowB, linkB, tieB, onceB, rowsB, linksB, soundB, areasB}
 use Rattle.book.specs.Laws.Tests.{and-l, and-r, apart, every-of, every-by}
 use Rattle.book.specs.Laws.MeansRows.{Tied, Fits, Row, tie-of, tie-by, row-of, row-by, id-here, id-is}
 use Rattle.book.specs.Laws.MeansLinks.{Masked, link-of, link-by, once-of, once-by}

@@ -13,8 +13,8 @@ use Rattle.rules.specs.Sound as rules
 use Rattle.tables.specs.Layout.{View, view, size}
 use Rattle.book.specs.Book.{nextOf, worldOf, idOf, codeOf, labelOf, clearanceOf, objectAt, rowOf}
 use Rattle.book.specs.Sound.{Sound, Live}
-use Rattle.book.specs.Enact.{movedOn, enactView, enactArea}
-use Rattle.book.specs.Test.{areasB, soundB, areaSize}
+use Rattle.book.specs.Enact.{areaSize, movedOn, enactView, enactArea}
+use Rattle.book.specs.Test.{areasB, soundB}
 use Rattle.book.specs.Laws.Means.{sound-means}
 use Rattle.book.specs.Laws.Shapes.{view-shape}
 use Rattle.book.specs.Laws.WorldSound.{placed, world-sound}

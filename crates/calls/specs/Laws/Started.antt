@@ -9,8 +9,7 @@ use lib.Dec.{eqb, leb}
 use borrow.Author.Tests.{eq-eqb, ne-eqb, le-leb, lt-leb}
 use Rattle.rules.specs.Kernel.{startable, lastNumber}
 use Rattle.tables.specs.Layout.{view, size}
-use Rattle.book.specs.Enact.{startView, startArea}
-use Rattle.book.specs.Test.{areaSize}
+use Rattle.book.specs.Enact.{areaSize, startView, startArea}
 use Rattle.calls.specs.Started.{lengthsRight, startAnswer, Started}
 
 pub startable-by : (f : ℕ) → 1 ≤ f → f ≤ lastNumber - 2 → startable f ≡ true

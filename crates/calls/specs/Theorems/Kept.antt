@@ -17,8 +17,8 @@ use Rattle.tables.specs.Layout.{View, view, size}
 use Rattle.book.specs.Book.{nextOf, rowOf, worldOf}
 use Rattle.book.specs.Sound.{Sound}
 use Rattle.book.specs.Shape.{Shape}
-use Rattle.book.specs.Enact.{movedOn, enactView, enactArea, alteredArea, areaAfter, cutArea}
-use Rattle.book.specs.Test.{areasB, soundB, areaSize}
+use Rattle.book.specs.Enact.{areaSize, movedOn, enactView, enactArea, alteredArea, areaAfter, cutArea}
+use Rattle.book.specs.Test.{areasB, soundB}
 use Rattle.book.specs.Laws.First.{collect-length, found-cases, on-at, on-nothing}
 use Rattle.book.specs.Laws.Means.{sound-means}
 use Rattle.book.specs.Laws.Shapes.{view-shape}

@@ -49,10 +49,7 @@ move-on-requires-2 c κs =
     let s = l .before .before .before .before .before in
     let a = s .args in
     let still = linked-going (a .c) (a .o) (view (a .b .now)) (l .l .given .0 .0) (s .pre .going .numbers) in
-    record {
-      whole = omega (arith, s .pre .going .whole);
-      numbers = subst (λ (u : View). nextOf u ≤ lastNumber) (sym (w .fill-link .ensures)) still;
-    }
+    (omega (arith, s .pre .going .whole), subst (λ (u : View). nextOf u ≤ lastNumber) (sym (w .fill-link .ensures)) still)
 
 same-length-2 : tie.Need-same-length-2
 same-length-2 c = search needs

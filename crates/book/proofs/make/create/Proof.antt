@@ -19,10 +19,7 @@ move-on-requires c κs =
     let p = c .before .before .before in
     let s = p .before .before .before .before .before in
     let a = s .args in
-    record {
-      whole = omega (arith, s .pre .going .whole);
-      numbers = subst (λ (u : View). nextOf u ≤ lastNumber) (sym (p .place .ensures .1)) (placed-going (a .c) (objectOf (a .row) (a .description .now) (a .closure .now)) (view (a .b .now)) (s .pre .going .numbers));
-    }
+    (omega (arith, s .pre .going .whole), subst (λ (u : View). nextOf u ≤ lastNumber) (sym (p .place .ensures .1)) (placed-going (a .c) (objectOf (a .row) (a .description .now) (a .closure .now)) (view (a .b .now)) (s .pre .going .numbers)))
 
 same-length : tie.Need-same-length
 same-length c = search needs
