@@ -3,7 +3,8 @@ use Prim.Native.Nat.{ℕ, _+_, _*_, _≤_}
 use mathlib.Core.Path.{_≡_}
 use mathlib.Core.List.{List}
 use lib.ListN.{length, take, drop}
-use Rattle.rules.specs.Kernel.{Call, refuse, grant, read, keep, answerOf, valueOf, outputOf, blockSize}
+use denote.Ref.{RefT, ptr, now}
+use Rattle.rules.specs.Kernel.{Verdict, refuse, grant, read, keep, answerOf, valueOf, outputOf, blockSize}
 use Rattle.tables.specs.Layout.{View, view}
 use Rattle.book.specs.Book.{blockAt, onFound, rowOf}
 use Rattle.calls.specs.declared.read.Located.{Located}
@@ -40,10 +41,18 @@ LocatedAs b area c d s k f n b′ (Off m) = NoPart b area c d s k f n b′ m
 
 -- ---- as the part itself
 
+-- how far into the data area the part begins; the empty part of a refusal begins where the area does
+unfoldable pub beginsAt : Verdict → ℕ → ℕ
+beginsAt (refuse m) p = 0
+beginsAt (grant v o h) p = p
+
 -- "A granted read hands back that part of the data area itself; a refused one hands back an empty part, as does count 0; answer and value go into lent numbers".
--- The data area is only lent to be read, so it stays as it was.
-pub record Shown (b area : List ℕ) (c : ℕ) (x : Call) (answer value : ℕ) (part b′ : List ℕ) : Type 0 where
-  pub answer-is : answer ≡ answerOf (verdictOn b area c x)
-  pub value-is : value ≡ valueOf (verdictOn b area c x)
-  pub part-is : part ≡ outputOf (verdictOn b area c x)
-  pub left : Left b area c x b′ area
+-- A reference's place is a piece of memory and a byte of it (`ptr`), so "itself" is said by the place, beside the bytes. The data area is only lent to be read, so it stays as
+-- it was.
+pub record Shown (b : List ℕ) (area : RefT (List ℕ)) (c d s k f n answer value : ℕ) (part : RefT (List ℕ)) (b′ : List ℕ) : Type 0 where
+  pub answer-is : answer ≡ answerOf (verdictOn b (now area) c (read d s k f n))
+  pub value-is : value ≡ valueOf (verdictOn b (now area) c (read d s k f n))
+  pub part-is : now part ≡ outputOf (verdictOn b (now area) c (read d s k f n))
+  pub memory-is : ptr part .0 ≡ ptr area .0
+  pub place-is : ptr part .1 ≡ ptr area .1 + beginsAt (verdictOn b (now area) c (read d s k f n)) (placeIn (view b) s k f)
+  pub left : Left b (now area) c (read d s k f n) b′ (now area)

@@ -79,7 +79,7 @@ pub fn read<'a>(
     answer: &mut u64,
     value: &mut u64,
 ) -> &'a [u8]
-    ensures { λ r. ⌜ Shown (now (b .entry)) (now (area .entry)) caller (kernel.read d s k from count) (now (answer .exit)) (now (value .exit)) (now r) (now (b .exit)) ⌝ }
+    ensures { λ r. ⌜ Shown (now (b .entry)) (area .entry) caller d s k from count (now (answer .exit)) (now (value .exit)) r (now (b .exit)) ⌝ }
 {
     *value = 0;
     match locate(b, area, caller, d, s, k, from, count) {

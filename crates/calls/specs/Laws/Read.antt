@@ -7,7 +7,8 @@ use mathlib.Core.Path.{_≡_, refl, sym, ap, _∙_}
 use mathlib.Core.List.{List, []}
 use lib.Dec.{leb}
 use lib.ListN.{length, take, drop}
-use Rattle.rules.specs.Kernel.{refuse, grant, judge, read, keep, goodArguments, answerOf, valueOf, outputOf, blockSize, maxBlock}
+use denote.Ref.{RefT, ptr, now}
+use Rattle.rules.specs.Kernel.{Verdict, refuse, grant, judge, read, keep, goodArguments, answerOf, valueOf, outputOf, blockSize, maxBlock}
 use Rattle.tables.specs.Layout.{view}
 use Rattle.book.specs.Book.{blockAt, rowOf, worldOf}
 use Rattle.book.specs.Enact.{movedOn, enactView, enactArea}
@@ -17,7 +18,7 @@ use Rattle.book.specs.Laws.Write.{part-low, read-part}
 use Rattle.calls.specs.Outcome.{verdictOn, Ready}
 use Rattle.calls.specs.Begun.{Caller}
 use Rattle.calls.specs.Part.{partOn, Reached, Beyond}
-use Rattle.calls.specs.Read.{ToRead, PartAt, NoPart, Shown}
+use Rattle.calls.specs.Read.{ToRead, PartAt, NoPart, placeIn, beginsAt, Shown}
 use Rattle.calls.specs.Laws.Access.{segment-bytes}
 use Rattle.calls.specs.Laws.Begun.{caller-four, caller-judged, placed-by-caller}
 use Rattle.calls.specs.Laws.Prelude.{area-long, done-stopped, done-refused, done-granted}
@@ -78,23 +79,32 @@ module _ (b area : List ℕ) (c d s k f n : ℕ) where
 
 -- ---- as the part itself
 
-module _ (b area : List ℕ) (c d s k f n : ℕ) (b′ : List ℕ) where
-  pub at-shown : (p m : ℕ) → PartAt b area c d s k f n b′ p m → Shown b area c (read d s k f n) 0 0 (take (p + m - p) (drop p area)) b′
-  unfolding answerOf valueOf outputOf
-  at-shown p m h =
+-- a part in the same memory as the data area
+module _ (b : List ℕ) (area : RefT (List ℕ)) (c d s k f n : ℕ) (b′ : List ℕ) (part : RefT (List ℕ)) (memory : ptr part .0 ≡ ptr area .0) where
+  pub at-shown : (p m : ℕ) → PartAt b (now area) c d s k f n b′ p m → now part ≡ take (p + m - p) (drop p (now area)) → ptr part .1 ≡ ptr area .1 + p
+      → Shown b area c d s k f n 0 0 part b′
+  unfolding answerOf valueOf outputOf beginsAt
+  at-shown p m h e from =
       record {
         answer-is = sym (ap answerOf (h .granted));
         value-is = sym (ap valueOf (h .granted));
-        part-is = ap (λ (q : ℕ). take q (drop p area)) (add-sub-cancel-left p m) ∙ sym (ap outputOf (h .granted));
+        part-is = e ∙ ap (λ (q : ℕ). take q (drop p (now area))) (add-sub-cancel-left p m) ∙ sym (ap outputOf (h .granted));
+        memory-is = memory;
+        place-is =
+            from
+            ∙ ap (λ (q : ℕ). ptr area .1 + q) (h .place)
+            ∙ sym (ap (λ (v : Verdict). ptr area .1 + beginsAt v (placeIn (view b) s k f)) (h .granted));
         left = h .left;
       }
 
-  pub off-shown : (m : ℕ) → NoPart b area c d s k f n b′ m → Shown b area c (read d s k f n) m 0 [] b′
-  unfolding answerOf valueOf outputOf
-  off-shown m h =
+  pub off-shown : (m : ℕ) → NoPart b (now area) c d s k f n b′ m → now part ≡ [] → ptr part .1 ≡ ptr area .1 + 0 → Shown b area c d s k f n m 0 part b′
+  unfolding answerOf valueOf outputOf beginsAt
+  off-shown m h e from =
       record {
         answer-is = sym (ap answerOf (h .refused));
         value-is = sym (ap valueOf (h .refused));
-        part-is = sym (ap outputOf (h .refused));
+        part-is = e ∙ sym (ap outputOf (h .refused));
+        memory-is = memory;
+        place-is = from ∙ sym (ap (λ (v : Verdict). ptr area .1 + beginsAt v (placeIn (view b) s k f)) (h .refused));
         left = h .left;
       }

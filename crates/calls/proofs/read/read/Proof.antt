@@ -40,7 +40,7 @@ same-length c = search needs
 returns : tie.Need-returns
 returns c =
     let h = subst (LocatedAs _ _ _ _ _ _ _ _ _) (c .before .before .place .given .1) (c .before .before .before .before .before .before .locate .ensures) in
-    at-shown _ _ _ _ _ _ _ _ _ _ _ h
+    at-shown _ (c .before .before .before .before .before .before .before .before .before .before .args .area) _ _ _ _ _ _ _ _ (search needs) _ _ h (search needs) (search needs)
 
 same-length-2 : tie.Need-same-length-2
 same-length-2 c = search needs
@@ -48,7 +48,7 @@ same-length-2 c = search needs
 returns-2 : tie.Need-returns-2
 returns-2 c =
     let h = subst (LocatedAs _ _ _ _ _ _ _ _ _) (c .before .before .n .given .1) (c .before .before .before .before .before .before .locate .ensures) in
-    off-shown _ _ _ _ _ _ _ _ _ _ h
+    off-shown _ (c .before .before .before .before .before .before .before .before .before .before .args .area) _ _ _ _ _ _ _ _ (search needs) _ h (search needs) (search needs)
 
 pub read-spec : {M : Type 1} → statement M
 read-spec =
