@@ -1,13 +1,13 @@
 -- What the tables of a book and the data area mean: which world they spell. docs/BOOK.md has the tables byte by byte.
-use Prim.Native.Nat.{ℕ, zero, suc, _+_, _*_, _-_, _/_, _%_}
+use Prim.Native.Nat.{ℕ, zero, suc, _+_, _*_, _-_, _/_, _%_, _≤_}
 use mathlib.Core.Bool.{Bool, true, false, not, cond}
 use mathlib.Core.List.{List, [], _∷_}
 use lib.ListN.{getD, take, drop}
-use lib.Dec.{eqb}
+use lib.Dec.{eqb, leb}
 use Rattle.labels.specs.declared.Label.{Label}
 use Rattle.labels.specs.Core.{wordCount}
 use Rattle.quotas.specs.Any.{any, both}
-use Rattle.rules.specs.Kernel.{Kind, absent, thread, gate, segment, container, isGate, isSegment, isContainer, hasClearance, Obj, World, blank, nothing, blockSize, textSize}
+use Rattle.rules.specs.Kernel.{threadCode, gateCode, segmentCode, containerCode, Kind, absent, thread, gate, segment, container, isGate, isSegment, isContainer, hasClearance, Obj, World, blank, nothing, blockSize, textSize}
 use Rattle.tables.specs.Layout.{View, rowCount, linkCount, blockCount}
 use Rattle.book.specs.declared.Found.{Found}
 use Rattle.book.specs.declared.Found.the-variants.{At, Nothing}
@@ -71,6 +71,13 @@ ownerOf v b = getD (v .owner) b 0
 abbrev pub indexOf : View → ℕ → ℕ
 indexOf v b = getD (v .index) b 0
 
+-- the code of a live row is a thread's or a gate's, which come first
+abbrev pub ThreadOrGate : ℕ → Type 0
+ThreadOrGate code = code ≤ gateCode
+
+abbrev pub isThreadOrGate : ℕ → Bool
+isThreadOrGate code = leb code gateCode
+
 abbrev pub liveRow : View → ℕ → Bool
 liveRow v r = not (eqb (codeOf v r) 0)
 
@@ -121,7 +128,7 @@ bytesOf v area r = collect (lenOf v r) (λ i. getD area (placeOf v r i) 0)
 -- ---- the world
 
 unfoldable pub kindFrom : ℕ → Kind
-kindFrom n = cond (eqb n 1) thread (cond (eqb n 2) gate (cond (eqb n 3) segment (cond (eqb n 4) container absent)))
+kindFrom n = cond (eqb n threadCode) thread (cond (eqb n gateCode) gate (cond (eqb n segmentCode) segment (cond (eqb n containerCode) container absent)))
 
 -- the object at a row; fields that its kind does not have are unused bytes
 unfoldable pub objectAt : View → List ℕ → ℕ → Obj

@@ -8,7 +8,7 @@ use mathlib.Core.List.{List}
 use lib.ListN.{length, getD, set}
 use lib.Dec.{eqb}
 use Rattle.quotas.specs.Any.{any, both, either}
-use Rattle.rules.specs.Kernel.{blockSize, lastNumber, Change, cut}
+use Rattle.rules.specs.Kernel.{containerCode, blockSize, lastNumber, Change, cut}
 use Rattle.tables.specs.Layout.{View, view, size, rowCount, linkCount, blockCount, onTab, putT}
 use Rattle.book.specs.Book.{nextOf, rootOf, idOf, codeOf, markOf, fromOf, toOf, ownerOf, liveLink, collect}
 use Rattle.book.specs.Sound.{On, Used, Sound}
@@ -41,7 +41,7 @@ pub record LinkCut (v : View) (l : ℕ) (area : List ℕ) (u : View) (left : Lis
 -- what goes with link l: link l, and each live link in a container that a link that goes leads to
 pub data Goes (v : View) (l : ℕ) : ℕ → Type 0 where
   this : Goes v l l
-  inside : {j : ℕ} (k : ℕ) → Goes v l j → codeOf v (toOf v j) ≡ 4 → On v k → fromOf v k ≡ toOf v j → Goes v l k
+  inside : {j : ℕ} (k : ℕ) → Goes v l j → codeOf v (toOf v j) ≡ containerCode → On v k → fromOf v k ≡ toOf v j → Goes v l k
 
 -- a book whose live links lead to rows, and its live link l
 pub record Linked (b : List ℕ) (l : ℕ) : Type 0 where

@@ -3,6 +3,7 @@ use Prim.Native.Nat.{ℕ, _+_}
 use mathlib.Core.Bool.{Bool, cond}
 use lib.Dec.{eqb}
 use Rattle.quotas.specs.Any.{both}
+use Rattle.rules.specs.Kernel.{threadCode, containerCode}
 use Rattle.tables.specs.Layout.{View, linkCount}
 use Rattle.book.specs.declared.Found.{Found}
 use Rattle.book.specs.declared.Found.the-variants.{At, Nothing}
@@ -15,10 +16,10 @@ unfoldable pub rowOfKind : ℕ → View → ℕ → Found
 rowOfKind k v o = onFound (rowOf v o) (λ r. cond (eqb (codeOf v r) k) (At r) Nothing) Nothing
 
 abbrev pub threadRow : View → ℕ → Found
-threadRow v o = rowOfKind 1 v o
+threadRow v o = rowOfKind threadCode v o
 
 abbrev pub containerRow : View → ℕ → Found
-containerRow v o = rowOfKind 4 v o
+containerRow v o = rowOfKind containerCode v o
 
 -- link l leads from row c to row o
 abbrev pub leads : View → ℕ → ℕ → ℕ → Bool

@@ -7,7 +7,7 @@ use mathlib.Core.List.{List}
 use lib.ListN.{length, replicate}
 use lib.Dec.{eqb}
 use Rattle.labels.specs.Core.{wordCount, plain, level1, level2}
-use Rattle.rules.specs.Kernel.{Obj, kindCode, containerOf, segmentOf, gateOf, threadOf, textSize, lastNumber, rootQuota}
+use Rattle.rules.specs.Kernel.{threadCode, gateCode, segmentCode, containerCode, Obj, kindCode, containerOf, segmentOf, gateOf, threadOf, textSize, lastNumber, rootQuota}
 use Rattle.tables.specs.Layout.{View, rowCount, size, view, empty, putT}
 use Rattle.book.specs.declared.Found.{Found}
 use Rattle.book.specs.declared.Found.the-variants.{At, Nothing}
@@ -20,9 +20,9 @@ use Rattle.book.specs.Enact.{nextT, rootT, idT, kindT, maskT, fixedT, qu
 -- by its kind's code, with s as its description and x as its closure
 unfoldable pub objectOf : NewRow → List ℕ → List ℕ → Obj
 objectOf n s x =
-    cond (eqb (n .kind) 1) (threadOf (n .label) (n .clearance) s)
-    (cond (eqb (n .kind) 2) (gateOf (n .label) (n .clearance) (n .entry) x s)
-    (cond (eqb (n .kind) 3) (segmentOf (n .label) s (n .quota)) (containerOf (n .label) s (n .mask) (n .quota))))
+    cond (eqb (n .kind) threadCode) (threadOf (n .label) (n .clearance) s)
+    (cond (eqb (n .kind) gateCode) (gateOf (n .label) (n .clearance) (n .entry) x s)
+    (cond (eqb (n .kind) segmentCode) (segmentOf (n .label) s (n .quota)) (containerOf (n .label) s (n .mask) (n .quota))))
 
 -- What is handed over is what the object has, and zero where its kind has nothing.
 pub record Handed (n : NewRow) (s x : List ℕ) : Type 0 where
@@ -43,10 +43,10 @@ pub record Handed (n : NewRow) (s x : List ℕ) : Type 0 where
 
 -- the root that Start makes, and its thread
 abbrev pub rootRow : NewRow
-rootRow = record { kind = 4; mask = 0; quota = rootQuota; entry = 0; label = plain level1; clearance = plain 0 }
+rootRow = record { kind = containerCode; mask = 0; quota = rootQuota; entry = 0; label = plain level1; clearance = plain 0 }
 
 abbrev pub threadRow : NewRow
-threadRow = record { kind = 1; mask = 0; quota = 1; entry = 0; label = plain level1; clearance = plain level2 }
+threadRow = record { kind = threadCode; mask = 0; quota = 1; entry = 0; label = plain level1; clearance = plain level2 }
 
 -- ---- what the changes leave, by rows
 

@@ -7,12 +7,13 @@ use mathlib.Core.Path.{_≡_}
 use lib.ListN.{length, getD}
 use lib.Dec.{eqb}
 use Rattle.quotas.specs.Sum.{Σ, when}
+use Rattle.rules.specs.Kernel.{segmentCode}
 use Rattle.tables.specs.Layout.{View, rowCount, blockCount}
 use Rattle.book.specs.Book.{codeOf, lenOf, ownerOf, indexOf, blocksOf}
 
 -- the blocks that row r needs
 abbrev pub needsOf : View → ℕ → ℕ
-needsOf v r = when (eqb (codeOf v r) 3) (blocksOf (lenOf v r))
+needsOf v r = when (eqb (codeOf v r) segmentCode) (blocksOf (lenOf v r))
 
 -- the blocks that the rows below r need
 unfoldable pub offsetOf : View → ℕ → ℕ

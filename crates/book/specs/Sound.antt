@@ -3,12 +3,12 @@ use Prim.Native.Nat.{ℕ, suc, _+_, _-_, _<_, _≤_}
 use mathlib.Core.Bool.{Bool, true, false}
 use mathlib.Core.Path.{_≡_}
 use lib.Bits.{bitOr}
-use lib.Dec.{eqb, leb}
+use lib.Dec.{eqb}
 use Rattle.labels.specs.Core.{wellFormed, flows}
 use Rattle.quotas.specs.Sum.{Σ, when}
-use Rattle.rules.specs.Kernel.{lastNumber, rootQuota, maxMask, maxLength, units}
+use Rattle.rules.specs.Kernel.{segmentCode, containerCode, maxCode, lastNumber, rootQuota, maxMask, maxLength, units}
 use Rattle.tables.specs.Layout.{View, rowCount, linkCount, blockCount}
-use Rattle.book.specs.Book.{nextOf, rootOf, idOf, codeOf, maskOf, fixedOf, quotaOf, lenOf, labelOf, clearanceOf, markOf, fromOf, toOf, ownerOf, indexOf, liveLink, blocksOf, isBlock}
+use Rattle.book.specs.Book.{nextOf, rootOf, idOf, codeOf, maskOf, fixedOf, quotaOf, lenOf, labelOf, clearanceOf, markOf, fromOf, toOf, ownerOf, indexOf, liveLink, blocksOf, isBlock, ThreadOrGate, isThreadOrGate}
 
 -- ---- what is in use
 
@@ -43,31 +43,31 @@ timesHeld v r k = Σ blockCount (λ b. when (isBlock v r k b) 1)
 
 -- kind 1 to 4; thread and gate have quota 1, others 1 to 256 (255 but for the root, as the tree shows); a segment's length and fixed mark, a container's mask
 pub record Range (code q n fixed mask : ℕ) : Type 0 where
-  pub code-most : code ≤ 4
+  pub code-most : code ≤ maxCode
   pub quota-some : 1 ≤ q
   pub quota-most : q ≤ rootQuota
-  pub quota-one : code ≤ 2 → q ≡ 1
-  pub length-most : code ≡ 3 → n ≤ maxLength
-  pub fixed-most : code ≡ 3 → fixed ≤ 1
-  pub mask-most : code ≡ 4 → mask ≤ maxMask
+  pub quota-one : ThreadOrGate code → q ≡ 1
+  pub length-most : code ≡ segmentCode → n ≤ maxLength
+  pub fixed-most : code ≡ segmentCode → fixed ≤ 1
+  pub mask-most : code ≡ containerCode → mask ≤ maxMask
 
 -- a link leads from a live container to a live object
 pub record Ends (v : View) (l : ℕ) : Type 0 where
   pub from-low : fromOf v l < rowCount
-  pub from-container : codeOf v (fromOf v l) ≡ 4
+  pub from-container : codeOf v (fromOf v l) ≡ containerCode
   pub to-low : toOf v l < rowCount
   pub to-live : codeOf v (toOf v l) ≡ 0 → ⊥
 
 -- a block belongs to a live segment that is long enough to have it
 pub record Owned (v : View) (b : ℕ) : Type 0 where
   pub owner-low : ownerOf v b - 1 < rowCount
-  pub owner-segment : codeOf v (ownerOf v b - 1) ≡ 3
+  pub owner-segment : codeOf v (ownerOf v b - 1) ≡ segmentCode
   pub within : indexOf v b < blocksOf (lenOf v (ownerOf v b - 1))
 
 -- the root: a container of quota 256 with the root's id, to which no link leads
 pub record Root (v : View) (r : ℕ) : Type 0 where
   pub low : r < rowCount
-  pub is-container : codeOf v r ≡ 4
+  pub is-container : codeOf v r ≡ containerCode
   pub has-id : idOf v r ≡ rootOf v
   pub quota-all : quotaOf v r ≡ rootQuota
   pub no-link : linksTo v r ≡ 0
@@ -84,23 +84,23 @@ pub record Sound (v : View) : Type 0 where
   pub ids-below : (r : ℕ) → Live v r → idOf v r < nextOf v
   pub ids-apart : (r s : ℕ) → Live v r → Live v s → s < r → idOf v r ≡ idOf v s → ⊥
   -- "labels are well formed against it", star only in labels of threads and gates
-  pub labels : (r : ℕ) → Live v r → wellFormed (nextOf v) (leb (codeOf v r) 2) (labelOf v r) ≡ true
-  pub clearances : (r : ℕ) → Live v r → codeOf v r ≤ 2 → wellFormed (nextOf v) false (clearanceOf v r) ≡ true
+  pub labels : (r : ℕ) → Live v r → wellFormed (nextOf v) (isThreadOrGate (codeOf v r)) (labelOf v r) ≡ true
+  pub clearances : (r : ℕ) → Live v r → ThreadOrGate (codeOf v r) → wellFormed (nextOf v) false (clearanceOf v r) ≡ true
   -- "thread and gate labels flow to their clearances"
-  pub flow : (r : ℕ) → Live v r → codeOf v r ≤ 2 → flows (labelOf v r) (clearanceOf v r) ≡ true
+  pub flow : (r : ℕ) → Live v r → ThreadOrGate (codeOf v r) → flows (labelOf v r) (clearanceOf v r) ≡ true
   -- "containers form a tree under one root of quota 256"
   pub root : (r : ℕ) × Root v r
   -- "every other object has a link"
   pub some-link : (r : ℕ) → Live v r → (idOf v r ≡ rootOf v → ⊥) → 1 ≤ linksTo v r
   -- "exactly one unless it is a segment with its quota fixed"
-  pub one-link : (r : ℕ) → Live v r → ((codeOf v r ≡ 3) × (fixedOf v r ≡ 1) → ⊥) → linksTo v r ≤ 1
+  pub one-link : (r : ℕ) → Live v r → ((codeOf v r ≡ segmentCode) × (fixedOf v r ≡ 1) → ⊥) → linksTo v r ≤ 1
   -- "no link occurs twice"
   pub links-apart : (l m : ℕ) → On v l → On v m → m < l → fromOf v l ≡ fromOf v m → toOf v l ≡ toOf v m → ⊥
   -- "use never exceeds quota"
-  pub container-fits : (r : ℕ) → Live v r → codeOf v r ≡ 4 → 1 + chargedTo v r ≤ quotaOf v r
-  pub segment-fits : (r : ℕ) → Live v r → codeOf v r ≡ 3 → units (lenOf v r) ≤ quotaOf v r
+  pub container-fits : (r : ℕ) → Live v r → codeOf v r ≡ containerCode → 1 + chargedTo v r ≤ quotaOf v r
+  pub segment-fits : (r : ℕ) → Live v r → codeOf v r ≡ segmentCode → units (lenOf v r) ≤ quotaOf v r
   -- "a child's mask includes its parent's"
-  pub masks : (l : ℕ) → On v l → codeOf v (toOf v l) ≡ 4 → bitOr (maskOf v (toOf v l)) (maskOf v (fromOf v l)) ≡ maskOf v (toOf v l)
+  pub masks : (l : ℕ) → On v l → codeOf v (toOf v l) ≡ containerCode → bitOr (maskOf v (toOf v l)) (maskOf v (fromOf v l)) ≡ maskOf v (toOf v l)
   -- "each segment has exactly its blocks and no block has two owners"
   pub owned : (b : ℕ) → Used v b → Owned v b
-  pub blocks-once : (r : ℕ) → Live v r → codeOf v r ≡ 3 → (k : ℕ) → k < blocksOf (lenOf v r) → timesHeld v r k ≡ 1
+  pub blocks-once : (r : ℕ) → Live v r → codeOf v r ≡ segmentCode → (k : ℕ) → k < blocksOf (lenOf v r) → timesHeld v r k ≡ 1

@@ -8,9 +8,9 @@ use lib.Dec.{eqb, leb, ltb}
 use Rattle.labels.specs.Core.{wellFormed, flows}
 use Rattle.quotas.specs.Sum.{Σ, when}
 use Rattle.quotas.specs.Any.{any}
-use Rattle.rules.specs.Kernel.{lastNumber, rootQuota, maxMask, maxLength, units}
+use Rattle.rules.specs.Kernel.{segmentCode, containerCode, lastNumber, rootQuota, maxMask, maxLength, units}
 use Rattle.tables.specs.Layout.{View, view, size, rowCount, linkCount, blockCount}
-use Rattle.book.specs.Book.{nextOf, rootOf, idOf, codeOf, maskOf, fixedOf, quotaOf, lenOf, labelOf, clearanceOf, markOf, fromOf, toOf, ownerOf, indexOf, blocksOf, hasId}
+use Rattle.book.specs.Book.{nextOf, rootOf, idOf, codeOf, maskOf, fixedOf, quotaOf, lenOf, labelOf, clearanceOf, markOf, fromOf, toOf, ownerOf, indexOf, blocksOf, hasId, isThreadOrGate}
 use Rattle.book.specs.Sound.{linksTo, chargedTo}
 use Rattle.book.specs.Enact.{areaSize}
 
@@ -24,7 +24,7 @@ every (suc n) t = t n && every n t
 -- what Range says, of a kind's code, quota, length, fixed mark and mask
 unfoldable pub rangeN : ℕ → ℕ → ℕ → ℕ → ℕ → Bool
 rangeN code q n fixed mask =
-    cond (leb code 2) (eqb q 1) (leb 1 q && (leb q rootQuota && (cond (eqb code 3) (leb n maxLength && leb fixed 1) (eqb code 4 && leb mask maxMask))))
+    cond (isThreadOrGate code) (eqb q 1) (leb 1 q && (leb q rootQuota && (cond (eqb code segmentCode) (leb n maxLength && leb fixed 1) (eqb code containerCode && leb mask maxMask))))
 
 unfoldable pub rangeB : View → ℕ → Bool
 rangeB v r = rangeN (codeOf v r) (quotaOf v r) (lenOf v r) (fixedOf v r) (maskOf v r)
@@ -41,7 +41,7 @@ unfoldable pub clearB : View → ℕ → Bool
 clearB v r = wellFormed (nextOf v) false (clearanceOf v r) && flows (labelOf v r) (clearanceOf v r)
 
 unfoldable pub labelB : View → ℕ → Bool
-labelB v r = wellFormed (nextOf v) (leb (codeOf v r) 2) (labelOf v r) && (cond (leb (codeOf v r) 2) (clearB v r) true)
+labelB v r = wellFormed (nextOf v) (isThreadOrGate (codeOf v r)) (labelOf v r) && (cond (isThreadOrGate (codeOf v r)) (clearB v r) true)
 
 unfoldable pub rowB : View → ℕ → Bool
 rowB v r = cond (eqb (codeOf v r) 0) true (rangeB v r && (idB v r && labelB v r))
@@ -50,11 +50,11 @@ rowB v r = cond (eqb (codeOf v r) 0) true (rangeB v r && (idB v r && labelB v r)
 
 -- the masks of a link's container and object, the latter of this kind
 unfoldable pub maskN : ℕ → ℕ → ℕ → Bool
-maskN mask code inner = cond (eqb code 4) (eqb (bitOr inner mask) inner) true
+maskN mask code inner = cond (eqb code containerCode) (eqb (bitOr inner mask) inner) true
 
 unfoldable pub endsB : View → ℕ → Bool
 endsB v l =
-    ltb (fromOf v l) rowCount && (ltb (toOf v l) rowCount && (eqb (codeOf v (fromOf v l)) 4 && (not (eqb (codeOf v (toOf v l)) 0) && maskN (maskOf v (fromOf v l)) (codeOf v (toOf v l)) (maskOf v (toOf v l)))))
+    ltb (fromOf v l) rowCount && (ltb (toOf v l) rowCount && (eqb (codeOf v (fromOf v l)) containerCode && (not (eqb (codeOf v (toOf v l)) 0) && maskN (maskOf v (fromOf v l)) (codeOf v (toOf v l)) (maskOf v (toOf v l)))))
 
 unfoldable pub linkB : View → ℕ → Bool
 linkB v l = cond (eqb (markOf v l) 0) true (endsB v l)
@@ -72,11 +72,11 @@ onceB v n l = cond (eqb (markOf v l) 0) true (cond (leb (n (toOf v l)) 1) true (
 -- of the root or not, a kind's code, fixed mark, quota, and how many links lead to it
 unfoldable pub tiedN : Bool → ℕ → ℕ → ℕ → ℕ → Bool
 tiedN isRoot code fixed q n =
-    cond isRoot (eqb code 4 && (eqb q rootQuota && eqb n 0)) (cond (eqb code 3 && eqb fixed 1) (leb 1 n) (eqb n 1))
+    cond isRoot (eqb code containerCode && (eqb q rootQuota && eqb n 0)) (cond (eqb code segmentCode && eqb fixed 1) (leb 1 n) (eqb n 1))
 
 -- of a kind's code, quota, length, and the quotas linked in it
 unfoldable pub fitsN : ℕ → ℕ → ℕ → ℕ → Bool
-fitsN code q n u = cond (eqb code 4) (leb (1 + u) q) (cond (eqb code 3) (leb (units n) q) true)
+fitsN code q n u = cond (eqb code containerCode) (leb (1 + u) q) (cond (eqb code segmentCode) (leb (units n) q) true)
 
 -- row r, to which n links lead and in which quotas of u are linked
 unfoldable pub tieB : View → ℕ → ℕ → ℕ → Bool
@@ -87,7 +87,7 @@ tieB v r n u =
 
 unfoldable pub ownedB : View → ℕ → Bool
 ownedB v b =
-    ltb (ownerOf v b - 1) rowCount && (eqb (codeOf v (ownerOf v b - 1)) 3 && ltb (indexOf v b) (blocksOf (lenOf v (ownerOf v b - 1))))
+    ltb (ownerOf v b - 1) rowCount && (eqb (codeOf v (ownerOf v b - 1)) segmentCode && ltb (indexOf v b) (blocksOf (lenOf v (ownerOf v b - 1))))
 
 -- blocks b and c have the same owner and index
 unfoldable pub twinB : View → ℕ → ℕ → Bool
@@ -101,7 +101,7 @@ unfoldable pub usedBlocks : View → ℕ
 usedBlocks v = Σ blockCount (λ b. when (not (eqb (ownerOf v b) 0)) 1)
 
 unfoldable pub neededBlocks : View → ℕ
-neededBlocks v = Σ rowCount (λ r. when (eqb (codeOf v r) 3) (blocksOf (lenOf v r)))
+neededBlocks v = Σ rowCount (λ r. when (eqb (codeOf v r) segmentCode) (blocksOf (lenOf v r)))
 
 -- ---- the whole
 

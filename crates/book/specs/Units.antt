@@ -3,7 +3,7 @@ use Prim.Native.Nat.{ℕ, _+_, _-_}
 use mathlib.Core.Bool.{cond}
 use lib.Dec.{eqb}
 use Rattle.quotas.specs.Sum.{when}
-use Rattle.rules.specs.Kernel.{units}
+use Rattle.rules.specs.Kernel.{segmentCode, containerCode, units}
 use Rattle.tables.specs.Layout.{View}
 use Rattle.book.specs.Book.{codeOf, quotaOf, lenOf, fromOf, toOf, liveLink}
 use Rattle.book.specs.Sound.{chargedTo}
@@ -14,7 +14,7 @@ chargeOf v c l = when (liveLink v l) (when (eqb (fromOf v l) c) (quotaOf v (toOf
 
 -- a container uses one unit and the quotas of what is linked in it, a segment what its length asks, a thread or gate one
 unfoldable pub useAt : View → ℕ → ℕ
-useAt v r = cond (eqb (codeOf v r) 4) (1 + chargedTo v r) (cond (eqb (codeOf v r) 3) (units (lenOf v r)) 1)
+useAt v r = cond (eqb (codeOf v r) containerCode) (1 + chargedTo v r) (cond (eqb (codeOf v r) segmentCode) (units (lenOf v r)) 1)
 
 unfoldable pub spareAt : View → ℕ → ℕ
 spareAt v r = quotaOf v r - useAt v r

@@ -8,6 +8,8 @@ ghost use Rattle.book.specs.Resize.{blockCleared};
 ghost use Rattle.book.specs.Cut.{cutAt, Entry, Cutting, LinkCut, Linked, Ended, Unlinked, endMarked, heldMarked, rowFreed, rowsFreed, rowsSwept, Blocked, blockFreed, blocksSwept, blockSwept, areaSwept};
 use super::alter::move_on;
 use super::area::clear_run;
+use super::kinds::CONTAINER;
+use super::kinds::FREE;
 use super::numbers::index;
 use super::numbers::row_of;
 use tables::BLOCKS;
@@ -24,8 +26,6 @@ use tables::get64;
 use tables::put8;
 use tables::put16;
 use tables::root;
-
-const CONTAINER: u8 = 4;
 
 const BLOCK: usize = 64;
 
@@ -87,7 +87,7 @@ fn drop_row(b: &mut [u8], r: usize, top: u64, held: u8)
     if get64(b, ID, r) == top {
         return;
     }
-    put8(b, KIND, r, 0);
+    put8(b, KIND, r, FREE);
 }
 
 fn drop_rows(b: &mut [u8], held: &[u8])
@@ -132,7 +132,7 @@ fn drop_block(b: &mut [u8], area: &mut [u8], i: usize)
     if owner == 0 {
         return;
     }
-    if get8(b, KIND, row_of(owner)) != 0 {
+    if get8(b, KIND, row_of(owner)) != FREE {
         return;
     }
     put16(b, OWNER, i, 0);

@@ -8,6 +8,9 @@ ghost use Rattle.tables.specs.Layout.{view, size, rowCount, linkCount};
 ghost use Rattle.book.specs.Book.{nextOf, rootOf, idOf, codeOf, maskOf, fixedOf, quotaOf, lenOf, entryOf, labelOf, clearanceOf, descriptionOf, closureOf, hasId, rowOf};
 ghost use Rattle.book.specs.Find.{threadRow, containerRow, leads, linkBetween, entryPlace};
 use super::Found;
+use super::kinds::CONTAINER;
+use super::kinds::FREE;
+use super::kinds::THREAD;
 use labels::Label;
 use labels::WORDS;
 use tables::CLEAR_DEFAULT;
@@ -67,7 +70,7 @@ pub fn id_of(b: &[u8], r: usize) -> u64
     get64(b, ID, r)
 }
 
-// The code of the row's kind, 0 where the row is free.
+// The code of the row's kind, FREE where the row is free.
 pub fn kind_of(b: &[u8], r: usize) -> u8
     requires { ⌜ (length (now b) ≡ size) × (r < rowCount) ⌝ }
     ensures { λ x. ⌜ x ≡ codeOf (view (now (b .entry))) r ⌝ }
@@ -152,7 +155,7 @@ fn has_id(b: &[u8], id: u64, r: usize) -> bool
     requires { ⌜ (length (now b) ≡ size) × (r < rowCount) ⌝ }
     ensures { λ t. ⌜ t ≡ hasId (view (now (b .entry))) id r ⌝ }
 {
-    if get8(b, KIND, r) == 0 {
+    if get8(b, KIND, r) == FREE {
         return false;
     }
     get64(b, ID, r) == id
@@ -181,7 +184,7 @@ pub fn thread_of(b: &[u8], id: u64) -> Found
     let Found::At(r) = row_of(b, id) else {
         return Found::Nothing;
     };
-    if kind_of(b, r) == 1 {
+    if kind_of(b, r) == THREAD {
         return Found::At(r);
     }
     Found::Nothing
@@ -195,7 +198,7 @@ pub fn container_of(b: &[u8], id: u64) -> Found
     let Found::At(r) = row_of(b, id) else {
         return Found::Nothing;
     };
-    if kind_of(b, r) == 4 {
+    if kind_of(b, r) == CONTAINER {
         return Found::At(r);
     }
     Found::Nothing

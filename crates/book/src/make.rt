@@ -9,6 +9,7 @@ ghost use Rattle.book.specs.Make.{objectOf, numbersFilled, placedIn, pla
 use super::Found;
 use super::alter::move_on;
 use super::alter::relabel;
+use super::kinds::FREE;
 use labels::Label;
 use tables::CLOSURE;
 use tables::DESCRIPTION;
@@ -50,7 +51,7 @@ pub fn free_row(b: &[u8]) -> Found
 {
     let mut r: usize = 0;
     while r < ROWS {
-        if get8(b, KIND, r) == 0 {
+        if get8(b, KIND, r) == FREE {
             return Found::At(r);
         }
         r += 1;

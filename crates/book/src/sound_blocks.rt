@@ -6,10 +6,12 @@ ghost use Prim.Native.Nat.{_+_, _<_, _≤_};
 ghost use lib.Dec.{eqb};
 ghost use lib.ListN.{length, replicate};
 ghost use Rattle.quotas.specs.Sum.{when};
+ghost use Rattle.rules.specs.Kernel.{segmentCode};
 ghost use Rattle.tables.specs.Layout.{size, view, rowCount, blockCount};
 ghost use Rattle.book.specs.Book.{codeOf, lenOf, ownerOf, blocksOf};
 ghost use Rattle.book.specs.Test.{every, ownedB, blockB, usedBlocks, neededBlocks, blocksB};
 ghost use Rattle.book.specs.Seen.{numberOf, Offsets, Seen};
+use super::kinds::SEGMENT;
 use super::numbers::blocks_of;
 use super::numbers::index;
 use super::numbers::row_of;
@@ -53,9 +55,9 @@ fn count_used(b: &[u8]) -> usize
 // The blocks that row r needs: none, if it is no segment.
 fn needed(b: &[u8], r: usize) -> usize
     requires { ⌜ (length (now b) ≡ size) × (r < rowCount) ⌝ }
-    ensures { λ n. ⌜ (n ≡ when (eqb (codeOf (view (now (b .entry))) r) 3) (blocksOf (lenOf (view (now (b .entry))) r))) × (n < 1025) ⌝ }
+    ensures { λ n. ⌜ (n ≡ when (eqb (codeOf (view (now (b .entry))) r) segmentCode) (blocksOf (lenOf (view (now (b .entry))) r))) × (n < 1025) ⌝ }
 {
-    if get8(b, KIND, r) != 3 {
+    if get8(b, KIND, r) != SEGMENT {
         return 0;
     }
     blocks_of(get16(b, LEN, r))
@@ -98,7 +100,7 @@ fn owned(b: &[u8], i: usize) -> bool
     if ROWS <= owner {
         return false;
     }
-    if get8(b, KIND, owner) != 3 {
+    if get8(b, KIND, owner) != SEGMENT {
         return false;
     }
     small_index(get8(b, INDEX, i)) < blocks_of(get16(b, LEN, owner))

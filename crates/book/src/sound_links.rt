@@ -8,6 +8,9 @@ ghost use Rattle.book.specs.Book.{markOf};
 ghost use Rattle.book.specs.Sound.{linksTo, chargedTo};
 ghost use Rattle.book.specs.Test.{every, maskN, endsB, linkB, sameB, onceB, tiedN, fitsN, tieB, rowsB, linksB};
 ghost use Rattle.book.specs.Tally.{Tallied};
+use super::kinds::CONTAINER;
+use super::kinds::FREE;
+use super::kinds::SEGMENT;
 use super::numbers::blocks_of;
 use super::numbers::index;
 use super::numbers::row_of;
@@ -34,7 +37,7 @@ use tables::root;
 fn mask(outer: u8, code: u8, inner: u8) -> bool
     ensures { λ t. ⌜ t ≡ maskN outer code inner ⌝ }
 {
-    if code == 4 {
+    if code == CONTAINER {
         return inner | outer == inner;
     }
     true
@@ -52,11 +55,11 @@ fn ends_ok(b: &[u8], l: usize) -> bool
     if ROWS <= to {
         return false;
     }
-    if get8(b, KIND, from) != 4 {
+    if get8(b, KIND, from) != CONTAINER {
         return false;
     }
     let code = get8(b, KIND, to);
-    if code == 0 {
+    if code == FREE {
         return false;
     }
     mask(get8(b, MASK, from), code, get8(b, MASK, to))
@@ -119,7 +122,7 @@ fn tied(is_root: bool, code: u8, fixed: u8, q: u16, n: u16) -> bool
     ensures { λ t. ⌜ t ≡ tiedN «is_root» code fixed q n ⌝ }
 {
     if is_root {
-        if code != 4 {
+        if code != CONTAINER {
             return false;
         }
         if q != ROOT_QUOTA {
@@ -127,7 +130,7 @@ fn tied(is_root: bool, code: u8, fixed: u8, q: u16, n: u16) -> bool
         }
         return n == 0;
     }
-    if code != 3 {
+    if code != SEGMENT {
         return n == 1;
     }
     if fixed == 1 {
@@ -139,10 +142,10 @@ fn tied(is_root: bool, code: u8, fixed: u8, q: u16, n: u16) -> bool
 fn fits(code: u8, q: u16, n: u16, u: u16) -> bool
     ensures { λ t. ⌜ t ≡ fitsN code q n u ⌝ }
 {
-    if code == 4 {
+    if code == CONTAINER {
         return u < q;
     }
-    if code == 3 {
+    if code == SEGMENT {
         return blocks_of(n) < index(q);
     }
     true
@@ -154,7 +157,7 @@ fn tie_ok(b: &[u8], r: usize, n: u16, u: u16) -> bool
     ensures { λ t. ⌜ t ≡ tieB (view (now (b .entry))) r n u ⌝ }
 {
     let code = get8(b, KIND, r);
-    if code == 0 {
+    if code == FREE {
         return true;
     }
     let q = get16(b, QUOTA, r);

@@ -6,6 +6,11 @@ ghost use lib.ListN.{length};
 ghost use Rattle.tables.specs.Layout.{size, view, rowCount};
 ghost use Rattle.book.specs.Book.{labelOf, clearanceOf, hasId};
 ghost use Rattle.book.specs.Test.{every, rangeN, rangeB, idB, clearB, labelB, rowB, rowsB};
+use super::kinds::CONTAINER;
+use super::kinds::FREE;
+use super::kinds::MAX_MASK;
+use super::kinds::SEGMENT;
+use super::kinds::thread_or_gate;
 use super::numbers::wide;
 use labels::Label;
 use labels::WORDS;
@@ -30,8 +35,6 @@ use tables::next;
 
 const MAX_LENGTH: u16 = 16256;
 
-const MAX_MASK: u8 = 15;
-
 pub const ROOT_QUOTA: u16 = 256;
 
 // One past the last number.
@@ -40,7 +43,7 @@ const NEXT_MOST: u64 = 2305843009213693952;
 fn range(code: u8, q: u16, n: u16, fixed: u8, mask: u8) -> bool
     ensures { λ r. ⌜ r ≡ rangeN code q n fixed mask ⌝ }
 {
-    if code <= 2 {
+    if thread_or_gate(code) {
         return q == 1;
     }
     if q < 1 {
@@ -49,13 +52,13 @@ fn range(code: u8, q: u16, n: u16, fixed: u8, mask: u8) -> bool
     if ROOT_QUOTA < q {
         return false;
     }
-    if code == 3 {
+    if code == SEGMENT {
         if MAX_LENGTH < n {
             return false;
         }
         return fixed <= 1;
     }
-    if code == 4 {
+    if code == CONTAINER {
         return mask <= MAX_MASK;
     }
     false
@@ -82,7 +85,7 @@ fn has_id(b: &[u8], id: u64, r: usize) -> bool
     if get64(b, ID, r) != id {
         return false;
     }
-    get8(b, KIND, r) != 0
+    get8(b, KIND, r) != FREE
 }
 
 // Whether no live row below n has this id.
@@ -150,10 +153,11 @@ fn label_ok(b: &[u8], r: usize) -> bool
 {
     let code = get8(b, KIND, r);
     let label = label_at(b, r);
-    if !well_formed(label, next(b), code <= 2) {
+    let cleared = thread_or_gate(code);
+    if !well_formed(label, next(b), cleared) {
         return false;
     }
-    if 2 < code {
+    if !cleared {
         return true;
     }
     clear_ok(b, r, label)
@@ -163,7 +167,7 @@ fn row_ok(b: &[u8], r: usize) -> bool
     requires { ⌜ (length (now b) ≡ size) × (r < rowCount) ⌝ }
     ensures { λ t. ⌜ t ≡ rowB (view (now (b .entry))) r ⌝ }
 {
-    if get8(b, KIND, r) == 0 {
+    if get8(b, KIND, r) == FREE {
         return true;
     }
     if !range_ok(b, r) {

@@ -7,6 +7,8 @@ ghost use Rattle.rules.specs.Kernel.{startable, lastNumber};
 ghost use Rattle.tables.specs.Layout.{size, view};
 ghost use Rattle.book.specs.Enact.{areaSize, startView, startArea};
 ghost use Rattle.book.specs.Make.{rootRow, threadRow, rootMade, threadMade};
+use super::kinds::CONTAINER;
+use super::kinds::THREAD;
 use super::make::NewRow;
 use super::make::fill_link;
 use super::make::fill_row;
@@ -32,7 +34,7 @@ fn root_row() -> NewRow
     ensures { λ r. ⌜ r ≡ rootRow ⌝ }
 {
     NewRow {
-        kind: 4,
+        kind: CONTAINER,
         mask: 0,
         quota: 256,
         entry: 0,
@@ -45,7 +47,7 @@ fn thread_row() -> NewRow
     ensures { λ r. ⌜ r ≡ threadRow ⌝ }
 {
     NewRow {
-        kind: 1,
+        kind: THREAD,
         mask: 0,
         quota: 1,
         entry: 0,

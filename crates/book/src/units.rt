@@ -9,6 +9,8 @@ ghost use Rattle.book.specs.Sound.{Live, Sound, chargedTo};
 ghost use Rattle.book.specs.Units.{chargeOf, useAt, spareAt};
 use super::find::kind_of;
 use super::find::len_of;
+use super::kinds::CONTAINER;
+use super::kinds::SEGMENT;
 use super::numbers::index;
 use tables::LINK_FROM;
 use tables::LINK_TO;
@@ -55,10 +57,10 @@ pub fn use_of(b: &[u8], r: usize) -> u64
     ensures { λ x. ⌜ x ≡ useAt (view (now (b .entry))) r ⌝ }
 {
     let kind = kind_of(b, r);
-    if kind == 4 {
+    if kind == CONTAINER {
         return 1 + charged(b, r);
     }
-    if kind == 3 {
+    if kind == SEGMENT {
         return units(len_of(b, r));
     }
     1

@@ -4,7 +4,7 @@ use mathlib.Core.Bool.{Bool, cond}
 use mathlib.Core.Path.{_≡_}
 use mathlib.Core.List.{List}
 use Rattle.labels.specs.declared.Label.{Label}
-use Rattle.rules.specs.Kernel.{Condition, Verdict, refuse, reading, writing, access}
+use Rattle.rules.specs.Kernel.{segmentCode, Condition, Verdict, refuse, reading, writing, access}
 use Rattle.tables.specs.Layout.{view}
 use Rattle.book.specs.declared.Found.the-variants.{At}
 use Rattle.book.specs.Book.{codeOf, rowOf, worldOf}
@@ -25,7 +25,7 @@ accessOn b area c d s writes rest =
 -- s is a segment, at row r, and whoever calls from row t passes
 pub record Open (b : List ℕ) (t d s : ℕ) (writes : Bool) (r : ℕ) : Type 0 where
   pub row : rowOf (view b) s ≡ At r
-  pub code : codeOf (view b) r ≡ 3
+  pub code : codeOf (view b) r ≡ segmentCode
   pub passes : (area : List ℕ) (c : ℕ) → Caller b area c t → (rest : Verdict) → accessOn b area c d s writes rest ≡ rest
 
 -- whoever calls from row t is refused by k

@@ -4,7 +4,7 @@ use mathlib.Core.List.{List}
 use lib.Bits.{bitOr}
 use Rattle.labels.specs.declared.Label.{Label}
 use Rattle.labels.specs.Core.{labelOf, plain}
-use Rattle.rules.specs.Kernel.{World, Obj, containerOf, orDefault, containerDefault, createContainer}
+use Rattle.rules.specs.Kernel.{containerCode, World, Obj, containerOf, orDefault, containerDefault, createContainer}
 use Rattle.tables.specs.Layout.{view}
 use Rattle.book.specs.declared.make.NewRow.{NewRow}
 use Rattle.book.specs.Book.{worldOf}
@@ -18,7 +18,7 @@ newContainer w d l s m q = containerOf (labelOf l) s (bitOr m ((w .obj d) .mask)
 
 -- the row it is handed over as
 abbrev pub containerRowOf : Label → ℕ → ℕ → NewRow
-containerRowOf l m q = record { kind = 4; mask = m; quota = q; entry = 0; label = l; clearance = plain 0 }
+containerRowOf l m q = record { kind = containerCode; mask = m; quota = q; entry = 0; label = l; clearance = plain 0 }
 
 -- what its judging answers
 abbrev pub ContainerJudged : List ℕ → List ℕ → ℕ → ℕ → List ℕ → List ℕ → ℕ → ℕ → Judged → Type 0

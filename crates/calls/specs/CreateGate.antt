@@ -3,7 +3,7 @@ use Prim.Native.Nat.{ℕ}
 use mathlib.Core.List.{List}
 use Rattle.labels.specs.declared.Label.{Label}
 use Rattle.labels.specs.Core.{labelOf}
-use Rattle.rules.specs.Kernel.{Obj, gateOf, createGate}
+use Rattle.rules.specs.Kernel.{gateCode, Obj, gateOf, createGate}
 use Rattle.book.specs.declared.make.NewRow.{NewRow}
 use Rattle.calls.specs.declared.Judged.{Judged}
 use Rattle.calls.specs.Outcome.{verdictOn, Means}
@@ -15,7 +15,7 @@ newGate l k e x s = gateOf (labelOf l) (labelOf k) e x s
 
 -- the row it is handed over as
 abbrev pub gateRowOf : Label → Label → ℕ → NewRow
-gateRowOf l k e = record { kind = 2; mask = 0; quota = 1; entry = e; label = l; clearance = k }
+gateRowOf l k e = record { kind = gateCode; mask = 0; quota = 1; entry = e; label = l; clearance = k }
 
 -- what its judging answers
 abbrev pub GateJudged : List ℕ → List ℕ → ℕ → ℕ → List ℕ → List ℕ → ℕ → List ℕ → List ℕ → Judged → Type 0

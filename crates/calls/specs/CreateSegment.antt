@@ -3,7 +3,7 @@ use Prim.Native.Nat.{ℕ}
 use mathlib.Core.List.{List}
 use Rattle.labels.specs.declared.Label.{Label}
 use Rattle.labels.specs.Core.{labelOf, plain}
-use Rattle.rules.specs.Kernel.{Obj, segmentOf, orDefault, segmentDefault, createSegment}
+use Rattle.rules.specs.Kernel.{segmentCode, Obj, segmentOf, orDefault, segmentDefault, createSegment}
 use Rattle.book.specs.declared.make.NewRow.{NewRow}
 use Rattle.calls.specs.declared.Judged.{Judged}
 use Rattle.calls.specs.Outcome.{verdictOn, Means}
@@ -15,7 +15,7 @@ newSegment l s q = segmentOf (labelOf l) s (orDefault q segmentDefault)
 
 -- the row it is handed over as
 abbrev pub segmentRow : Label → ℕ → NewRow
-segmentRow l q = record { kind = 3; mask = 0; quota = q; entry = 0; label = l; clearance = plain 0 }
+segmentRow l q = record { kind = segmentCode; mask = 0; quota = q; entry = 0; label = l; clearance = plain 0 }
 
 -- what its judging answers
 abbrev pub SegmentJudged : List ℕ → List ℕ → ℕ → ℕ → List ℕ → List ℕ → ℕ → Judged → Type 0

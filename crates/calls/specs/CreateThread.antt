@@ -3,7 +3,7 @@ use Prim.Native.Nat.{ℕ}
 use mathlib.Core.List.{List}
 use Rattle.labels.specs.declared.Label.{Label}
 use Rattle.labels.specs.Core.{labelOf}
-use Rattle.rules.specs.Kernel.{Obj, threadOf, createThread}
+use Rattle.rules.specs.Kernel.{threadCode, Obj, threadOf, createThread}
 use Rattle.book.specs.declared.make.NewRow.{NewRow}
 use Rattle.calls.specs.declared.Judged.{Judged}
 use Rattle.calls.specs.Outcome.{verdictOn, Means}
@@ -15,7 +15,7 @@ newThread l k s = threadOf (labelOf l) (labelOf k) s
 
 -- the row it is handed over as
 abbrev pub threadRowOf : Label → Label → NewRow
-threadRowOf l k = record { kind = 1; mask = 0; quota = 1; entry = 0; label = l; clearance = k }
+threadRowOf l k = record { kind = threadCode; mask = 0; quota = 1; entry = 0; label = l; clearance = k }
 
 -- what its judging answers
 abbrev pub ThreadJudged : List ℕ → List ℕ → ℕ → ℕ → List ℕ → List ℕ → List ℕ → Judged → Type 0

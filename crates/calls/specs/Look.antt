@@ -7,7 +7,7 @@ use lib.ListN.{replicate}
 use lib.Dec.{eqb}
 use Rattle.labels.specs.declared.Label.{Label}
 use Rattle.labels.specs.Core.{wordsBytes, wordCount, mayRead}
-use Rattle.rules.specs.Kernel.{grant, look, keep, lookSize}
+use Rattle.rules.specs.Kernel.{threadCode, grant, look, keep, lookSize}
 use Rattle.tables.specs.Layout.{View, view, rowCount}
 use Rattle.book.specs.declared.find.Entry.{Entry}
 use Rattle.book.specs.declared.find.Entry.the-variants as place
@@ -21,7 +21,7 @@ lookPlace v d o = cond (eqb o d) (onFound (containerRow v d) (λ c. place.In c c
 
 -- "A thread's label is shown only if T may read it"
 abbrev pub shownB : ℕ → Label → Label → Bool
-shownB k mine theirs = not (eqb k 1 && not (mayRead mine theirs))
+shownB k mine theirs = not (eqb k threadCode && not (mayRead mine theirs))
 
 -- "kind; 1 if the label is shown; default code; five zeros; eight words, little-endian", "else zeros there"
 abbrev pub shownBytes : ℕ → Label → List ℕ

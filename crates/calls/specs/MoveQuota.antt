@@ -5,7 +5,7 @@ use mathlib.Core.Path.{_≡_}
 use mathlib.Core.List.{List, []}
 use lib.Dec.{eqb}
 use lib.IntN.{ℤ}
-use Rattle.rules.specs.Kernel.{grant, moveQuota, alter, requota, rootQuota}
+use Rattle.rules.specs.Kernel.{segmentCode, grant, moveQuota, alter, requota, rootQuota}
 use Rattle.tables.specs.Layout.{View, view, rowCount}
 use Rattle.book.specs.declared.Found.the-variants.{At}
 use Rattle.book.specs.Book.{codeOf, fixedOf, quotaOf, rowOf}
@@ -16,7 +16,7 @@ use Rattle.calls.specs.Outcome.{verdictOn, Means}
 
 -- the quota of the object at row r is fixed; the mark of a row that is no segment's is not looked at
 unfoldable pub isFixed : View → ℕ → Bool
-isFixed v r = cond (eqb (codeOf v r) 3) (eqb (fixedOf v r) 1) false
+isFixed v r = cond (eqb (codeOf v r) segmentCode) (eqb (fixedOf v r) 1) false
 
 -- o is at row r, and u, which z means, is granted to be moved into it or back
 pub record ToMove (b area : List ℕ) (c d o : ℕ) (z : ℤ) (u : Amount) (r j k : ℕ) : Type 0 where

@@ -5,7 +5,7 @@ use mathlib.Core.Path.{_≡_}
 use mathlib.Core.List.{List}
 use lib.Dec.{leb}
 use lib.ListN.{length}
-use Rattle.rules.specs.Kernel.{Verdict, refuse, must, blockSize}
+use Rattle.rules.specs.Kernel.{segmentCode, Verdict, refuse, must, blockSize}
 use Rattle.tables.specs.Layout.{view}
 use Rattle.book.specs.declared.Found.the-variants.{At}
 use Rattle.book.specs.Book.{codeOf, lenOf, blockAt, rowOf, worldOf}
@@ -23,7 +23,7 @@ partOn b area c d s k f n writes rest =
 pub record Lies (b : List ℕ) (s k f n p : ℕ) : Type 0 where
   pub at-row : ℕ
   pub row : rowOf (view b) s ≡ At at-row
-  pub code : codeOf (view b) at-row ≡ 3
+  pub code : codeOf (view b) at-row ≡ segmentCode
   pub place : p ≡ blockSize * blockAt (view b) at-row k + f
   pub within : blockSize * k + f + n ≤ lenOf (view b) at-row
   pub one : f + n ≤ blockSize

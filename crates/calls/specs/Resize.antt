@@ -2,7 +2,7 @@
 use Prim.Native.Nat.{ℕ, _≤_}
 use mathlib.Core.Path.{_≡_}
 use mathlib.Core.List.{List, []}
-use Rattle.rules.specs.Kernel.{grant, resize, resized, alter, rewrite, units, maxLength}
+use Rattle.rules.specs.Kernel.{segmentCode, grant, resize, resized, alter, rewrite, units, maxLength}
 use Rattle.tables.specs.Layout.{view}
 use Rattle.book.specs.declared.Found.the-variants.{At}
 use Rattle.book.specs.Book.{codeOf, quotaOf, bytesOf, rowOf}
@@ -12,6 +12,6 @@ use Rattle.calls.specs.Outcome.{verdictOn}
 pub record ToResize (b area : List ℕ) (c d s n r j k : ℕ) : Type 0 where
   pub granted : verdictOn b area c (resize d s n) ≡ grant 0 [] (alter s (rewrite (resized n (bytesOf (view b) area r))))
   pub row : rowOf (view b) s ≡ At r
-  pub code : codeOf (view b) r ≡ 3
+  pub code : codeOf (view b) r ≡ segmentCode
   pub most : n ≤ maxLength
   pub fits : units n ≤ quotaOf (view b) r

@@ -9,11 +9,10 @@ use book::find::Entry;
 use book::find::entry_of;
 use book::find::kind_of;
 use book::find::label_of;
+use book::kinds::SEGMENT;
 use labels::Label;
 use labels::compare::may_read;
 use labels::compare::may_write;
-
-const SEGMENT: u8 = 3;
 
 // The row of the segment, or the refusal's number.
 pub enum Opened {

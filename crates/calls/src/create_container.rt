@@ -10,7 +10,6 @@ ghost use Rattle.calls.specs.CreateContainer.{containerRowOf, ContainerJ
 use super::Answer;
 use super::Begun;
 use super::Judged;
-use super::arguments::TEXT_SIZE;
 use super::arguments::good_label;
 use super::arguments::good_text;
 use super::begin::begin;
@@ -22,18 +21,21 @@ use super::creating::plain_allowed;
 use book::alter::move_on;
 use book::find::mask_of;
 use book::find::next_of;
+use book::kinds::CONTAINER;
+use book::kinds::MAX_MASK;
 use book::make::NewRow;
 use labels::Label;
 use labels::bytes::from_bytes;
+use tables::TEXT_SIZE;
 
-// "Mask: bit 0 thread to bit 3 container, at most 15".
-const MAX_MASK: u64 = 15;
+// The largest mask, as wide as the one that is lent.
+const MASK_MOST: u64 = MAX_MASK as u64;
 
 // "Quota 0 in a create means the default: .. container 16".
 const DEFAULT_QUOTA: u64 = 16;
 
 // The place of a container's bit in a mask.
-const PLACE: u64 = 3;
+const PLACE: u64 = CONTAINER as u64 - 1;
 
 fn good_arguments(next: u64, label: &[u8], description: &[u8], mask: u64, quota: u64) -> bool
     ensures { λ r. ⌜ r ≡ (goodLabel next false (now (label .entry)) && (goodText (now (description .entry)) && (leb mask maxMask && leb quota maxQuota))) ⌝ }
@@ -44,7 +46,7 @@ fn good_arguments(next: u64, label: &[u8], description: &[u8], mask: u64, quota:
     if !good_text(description) {
         return false;
     }
-    if MAX_MASK < mask {
+    if MASK_MOST < mask {
         return false;
     }
     quota <= MAX_QUOTA
@@ -87,7 +89,7 @@ fn new_row(label: Label, mask: u64, quota: u64) -> NewRow
     ensures { λ r. ⌜ r ≡ containerRowOf label mask quota ⌝ }
 {
     NewRow {
-        kind: 4,
+        kind: CONTAINER,
         mask: mask as u8,
         quota: quota as u16,
         entry: 0,

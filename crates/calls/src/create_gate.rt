@@ -15,6 +15,7 @@ use super::creating::cleared_allowed;
 use super::creating::make_in;
 use book::alter::move_on;
 use book::find::next_of;
+use book::kinds::GATE;
 use book::make::NewRow;
 use labels::Label;
 use labels::bytes::from_bytes;
@@ -23,7 +24,7 @@ use labels::bytes::from_bytes;
 const QUOTA: u64 = 1;
 
 // The place of a gate's bit in a mask.
-const PLACE: u64 = 1;
+const PLACE: u64 = GATE as u64 - 1;
 
 fn good_arguments(
     next: u64,
@@ -76,7 +77,7 @@ fn new_row(label: Label, clearance: Label, number: u64) -> NewRow
     ensures { λ r. ⌜ r ≡ gateRowOf label clearance number ⌝ }
 {
     NewRow {
-        kind: 2,
+        kind: GATE,
         mask: 0,
         quota: 1,
         entry: number,

@@ -9,7 +9,6 @@ ghost use Rattle.calls.specs.CreateSegment.{segmentRow, SegmentJudged};
 use super::Answer;
 use super::Begun;
 use super::Judged;
-use super::arguments::TEXT_SIZE;
 use super::arguments::good_label;
 use super::arguments::good_text;
 use super::begin::begin;
@@ -20,15 +19,17 @@ use super::creating::or_default;
 use super::creating::plain_allowed;
 use book::alter::move_on;
 use book::find::next_of;
+use book::kinds::SEGMENT;
 use book::make::NewRow;
 use labels::Label;
 use labels::bytes::from_bytes;
+use tables::TEXT_SIZE;
 
 // "Quota 0 in a create means the default: segment 5".
 const DEFAULT_QUOTA: u64 = 5;
 
 // The place of a segment's bit in a mask.
-const PLACE: u64 = 2;
+const PLACE: u64 = SEGMENT as u64 - 1;
 
 fn good_arguments(next: u64, label: &[u8], description: &[u8], quota: u64) -> bool
     ensures { λ r. ⌜ r ≡ (goodLabel next false (now (label .entry)) && (goodText (now (description .entry)) && leb quota maxQuota)) ⌝ }
@@ -70,7 +71,7 @@ fn new_row(label: Label, quota: u64) -> NewRow
     ensures { λ r. ⌜ r ≡ segmentRow label quota ⌝ }
 {
     NewRow {
-        kind: 3,
+        kind: SEGMENT,
         mask: 0,
         quota: quota as u16,
         entry: 0,

@@ -7,7 +7,6 @@ ghost use Rattle.calls.specs.CreateThread.{threadRowOf, ThreadJudged};
 use super::Answer;
 use super::Begun;
 use super::Judged;
-use super::arguments::TEXT_SIZE;
 use super::arguments::good_label;
 use super::arguments::good_text;
 use super::begin::begin;
@@ -16,15 +15,17 @@ use super::creating::cleared_allowed;
 use super::creating::make_in;
 use book::alter::move_on;
 use book::find::next_of;
+use book::kinds::THREAD;
 use book::make::NewRow;
 use labels::Label;
 use labels::bytes::from_bytes;
+use tables::TEXT_SIZE;
 
 // "Thread and gate have quota 1".
 const QUOTA: u64 = 1;
 
 // The place of a thread's bit in a mask.
-const PLACE: u64 = 0;
+const PLACE: u64 = THREAD as u64 - 1;
 
 fn good_arguments(next: u64, label: &[u8], clearance: &[u8], description: &[u8]) -> bool
     ensures { λ r. ⌜ r ≡ (goodLabel next true (now (label .entry)) && (goodLabel next false (now (clearance .entry)) && goodText (now (description .entry)))) ⌝ }
@@ -65,7 +66,7 @@ fn new_row(label: Label, clearance: Label) -> NewRow
     ensures { λ r. ⌜ r ≡ threadRowOf label clearance ⌝ }
 {
     NewRow {
-        kind: 1,
+        kind: THREAD,
         mask: 0,
         quota: 1,
         entry: 0,

@@ -12,7 +12,6 @@ ghost use Rattle.calls.specs.Outcome.{Done, Means, verdictOn, outputLeft
 use super::Answer;
 use super::Begun;
 use super::Judged;
-use super::arguments::TEXT_SIZE;
 use super::arguments::good_label;
 use super::begin::begin;
 use super::relabel::take_labels;
@@ -25,12 +24,14 @@ use book::find::entry_of;
 use book::find::kind_of;
 use book::find::label_of;
 use book::find::next_of;
+use book::kinds::GATE;
 use labels::Label;
 use labels::bytes::from_bytes;
 use labels::compare::floor_flows;
 use labels::compare::flows;
 use labels::compare::flows_join;
 use labels::compare::may_read;
+use tables::TEXT_SIZE;
 
 // Whether L_R, C_R, L_V and the output's length are as they should be.
 fn good(next: u64, lr: &[u8], cr: &[u8], lv: &[u8], n: usize) -> bool
@@ -124,7 +125,7 @@ fn judge(
     if !may_read(mine, theirs) {
         return Judged::No(5);
     }
-    if kind_of(b, object) != 2 {
+    if kind_of(b, object) != GATE {
         return Judged::No(6);
     }
     if !conditions(b, t, object, lr, cr, lv) {

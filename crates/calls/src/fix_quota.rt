@@ -14,12 +14,11 @@ use book::find::Entry;
 use book::find::entry_of;
 use book::find::kind_of;
 use book::find::label_of;
+use book::kinds::SEGMENT;
 use labels::Label;
 use labels::compare::flows;
 use labels::compare::may_read;
 use labels::compare::may_write;
-
-const SEGMENT: u8 = 3;
 
 // "T may write D, T flows to O."
 fn allowed(mine: Label, holder: Label, theirs: Label) -> bool

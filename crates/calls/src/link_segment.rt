@@ -19,14 +19,13 @@ use book::find::kind_of;
 use book::find::label_of;
 use book::find::link_of;
 use book::find::quota_of;
+use book::kinds::SEGMENT;
 use book::make::add_link;
 use book::units::spare_of;
 use labels::Label;
 use labels::compare::flows;
 use labels::compare::may_read;
 use labels::compare::may_write;
-
-const SEGMENT: u8 = 3;
 
 // "T may write D; O flows to T's clearance."
 fn allowed(mine: Label, clear: Label, holder: Label, theirs: Label) -> bool

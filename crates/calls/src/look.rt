@@ -23,12 +23,15 @@ use book::find::description_into;
 use book::find::entry_of;
 use book::find::kind_of;
 use book::find::label_of;
+use book::kinds::THREAD;
 use labels::Label;
+use labels::WORDS;
 use labels::bytes::put_words;
 use labels::compare::may_read;
+use tables::TEXT_SIZE;
 
-// The bytes of an output.
-pub const LOOK_SIZE: usize = 104;
+// The bytes of an output: the description, eight bytes, and the words of a label.
+pub const LOOK_SIZE: usize = TEXT_SIZE + 8 + WORDS * 8;
 
 // "The pair (D, D) is an entry only for call 16."
 fn place_of(b: &[u8], d: u64, o: u64) -> Entry
@@ -81,7 +84,7 @@ fn judge(b: &[u8], area: &[u8], caller: u64, d: u64, o: u64, n: usize) -> Judged
 fn shown(kind: u8, mine: Label, theirs: Label) -> bool
     ensures { λ r. ⌜ r ≡ shownB kind mine theirs ⌝ }
 {
-    if kind != 1 {
+    if kind != THREAD {
         return true;
     }
     may_read(mine, theirs)
@@ -149,8 +152,8 @@ fn look_into(b: &[u8], t: usize, r: usize, out: &mut [u8])
     let mine = label_of(b, t);
     let theirs = label_of(b, r);
     let kind = kind_of(b, r);
-    description_into(b, r, &mut out[0..32]);
-    put_label(&mut out[32..104], kind, mine, theirs);
+    description_into(b, r, &mut out[0..TEXT_SIZE]);
+    put_label(&mut out[TEXT_SIZE..LOOK_SIZE], kind, mine, theirs);
 }
 
 pub fn look(b: &mut [u8], area: &mut [u8], caller: u64, d: u64, o: u64, out: &mut [u8]) -> Answer

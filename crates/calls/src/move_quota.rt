@@ -10,7 +10,7 @@ ghost use Rattle.book.specs.Sound.{Live, Sound};
 ghost use Rattle.calls.specs.Amount.{moreFor, roomAt};
 ghost use Rattle.calls.specs.MoveQuota.{MeansMoving, isFixed};
 ghost use Rattle.calls.specs.Outcome.{Done};
-ghost use Rattle.rules.specs.Kernel.{allHold, flow, writing, moveQuota};
+ghost use Rattle.rules.specs.Kernel.{segmentCode, containerCode, allHold, flow, writing, moveQuota};
 use super::Answer;
 use super::Begun;
 use super::Judged;
@@ -28,19 +28,17 @@ use book::find::fixed_of;
 use book::find::kind_of;
 use book::find::label_of;
 use book::find::quota_of;
+use book::kinds::CONTAINER;
+use book::kinds::SEGMENT;
 use book::units::spare_of;
 use labels::Label;
 use labels::compare::flows;
 use labels::compare::may_read;
 use labels::compare::may_write;
 
-const SEGMENT: u8 = 3;
-
-const CONTAINER: u8 = 4;
-
 // A segment or a container.
 fn movable(kind: u8) -> bool
-    ensures { λ r. ⌜ r ≡ (eqb kind 3 || eqb kind 4) ⌝ }
+    ensures { λ r. ⌜ r ≡ (eqb kind segmentCode || eqb kind containerCode) ⌝ }
 {
     if kind == SEGMENT {
         return true;

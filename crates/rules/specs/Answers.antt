@@ -5,7 +5,7 @@ use mathlib.Core.Bool.{Bool, false, _||_}
 use mathlib.Core.Path.{_≡_}
 use mathlib.Core.List.{List, [], _∷_}
 use lib.Dec.{eqb}
-use Rattle.rules.specs.Kernel.{World, Call, createCategory, setLabel, setClearance, createContainer, createSegment, createGate, createThread, unreference, linkSegment, fixQuota, moveQuota, read, write, resize, enterGate, look, Change, apply, grant, call, valueOf, outputOf, after}
+use Rattle.rules.specs.Kernel.{World, Call, createCategory, setLabel, setClearance, createContainer, createSegment, createGate, createThread, unreference, linkSegment, fixQuota, moveQuota, read, write, resize, enterGate, look, Change, apply, grant, call, valueOf, outputOf, after, textSize, lookSize}
 
 -- k stands in the list
 unfoldable pub oneOf : ℕ → List ℕ → Bool
@@ -60,5 +60,5 @@ outputSize (moveQuota d o n) = 0
 outputSize (read d s k f n) = n
 outputSize (write d s k f n b) = 0
 outputSize (resize d s n) = 0
-outputSize (enterGate d g lr cr lv out) = 32
-outputSize (look d o out) = 104
+outputSize (enterGate d g lr cr lv out) = textSize
+outputSize (look d o out) = lookSize

@@ -16,6 +16,23 @@ use Rattle.quotas.specs.Any.{any}
 
 -- ---- numbers, each named once
 
+-- "Four kinds of object: 1 thread, 2 gate, 3 segment, 4 container."
+abbrev pub threadCode : ℕ
+threadCode = 1
+
+abbrev pub gateCode : ℕ
+gateCode = 2
+
+abbrev pub segmentCode : ℕ
+segmentCode = 3
+
+abbrev pub containerCode : ℕ
+containerCode = 4
+
+-- the last of them
+abbrev pub maxCode : ℕ
+maxCode = containerCode
+
 -- "Numbers end at 2305843009213693951"
 abbrev pub lastNumber : ℕ
 lastNumber = 2305843009213693951
@@ -35,6 +52,9 @@ abbrev pub maxQuota : ℕ
 maxQuota = 255
 
 -- "Mask: bit 0 thread to bit 3 container, at most 15"
+abbrev pub maskWidth : ℕ
+maskWidth = maxCode
+
 abbrev pub maxMask : ℕ
 maxMask = 15
 
@@ -60,31 +80,31 @@ lookSize = textSize + 8 + wordCount * 8
 
 -- ---- what the kernel holds
 
--- "Four kinds of object: 1 thread, 2 gate, 3 segment, 4 container." An id that no object has is absent.
+-- An id that no object has is absent.
 pub data Kind : Type 0 where
   absent thread gate segment container : Kind
 
 unfoldable pub kindCode : Kind → ℕ
 kindCode absent = 0
-kindCode thread = 1
-kindCode gate = 2
-kindCode segment = 3
-kindCode container = 4
+kindCode thread = threadCode
+kindCode gate = gateCode
+kindCode segment = segmentCode
+kindCode container = containerCode
 
 unfoldable pub isLive : Kind → Bool
 isLive k = not (eqb (kindCode k) 0)
 
 unfoldable pub isThread : Kind → Bool
-isThread k = eqb (kindCode k) 1
+isThread k = eqb (kindCode k) threadCode
 
 unfoldable pub isGate : Kind → Bool
-isGate k = eqb (kindCode k) 2
+isGate k = eqb (kindCode k) gateCode
 
 unfoldable pub isSegment : Kind → Bool
-isSegment k = eqb (kindCode k) 3
+isSegment k = eqb (kindCode k) segmentCode
 
 unfoldable pub isContainer : Kind → Bool
-isContainer k = eqb (kindCode k) 4
+isContainer k = eqb (kindCode k) containerCode
 
 -- threads and gates have a clearance, and star may stand in their labels
 unfoldable pub hasClearance : Kind → Bool

@@ -9,6 +9,7 @@ use lib.Dec.{eqb}
 use lib.Seq.{sets}
 use Rattle.labels.specs.Le.{leAt}
 use Rattle.labels.specs.Core.{wordCount}
+use Rattle.rules.specs.Kernel.{textSize}
 pub mod Laws
 pub mod Only
 pub mod Runs
@@ -27,10 +28,6 @@ linkCount = 255
 -- the blocks of the data area
 abbrev pub blockCount : ℕ
 blockCount = 256
-
--- the bytes of a description, and of a gate's closure
-abbrev pub textSize : ℕ
-textSize = 32
 
 abbrev pub tableCount : ℕ
 tableCount = 19

@@ -14,13 +14,13 @@ use Rattle.labels.specs.declared.Label.{Label}
 use Rattle.labels.specs.Core.{wordCount}
 use Rattle.quotas.specs.Any.{any, both}
 use Rattle.quotas.specs.Sum.{Σ, when}
-use Rattle.rules.specs.Kernel.{blank, Edit, relabel, fix, requota, edit, keep, alter, apply, hasClearance, isSegment}
+use Rattle.rules.specs.Kernel.{gateCode, segmentCode, maxCode, blank, Edit, relabel, fix, requota, edit, keep, alter, apply, hasClearance, isSegment}
 use Rattle.rules.specs.Laws.Bools.{bool-cases}
 use Rattle.rules.specs.Laws.Put.{put-same, put-other}
 use Rattle.tables.specs.Layout.{View, rowCount, linkCount, blockCount, putT, runT}
 use Rattle.tables.specs.Layout.Laws.{within}
 use Rattle.tables.specs.Layout.Runs.{sets-read, sets-before, sets-behind}
-use Rattle.book.specs.Book.{nextOf, rootOf, idOf, codeOf, fixedOf, quotaOf, lenOf, labelOf, clearanceOf, fromOf, toOf, ownerOf, indexOf, blocksOf, first, blockAt, placeOf, bytesOf, kindFrom, objectAt, rowOf, worldOf}
+use Rattle.book.specs.Book.{nextOf, rootOf, idOf, codeOf, fixedOf, quotaOf, lenOf, labelOf, clearanceOf, fromOf, toOf, ownerOf, indexOf, blocksOf, first, blockAt, placeOf, bytesOf, kindFrom, objectAt, rowOf, worldOf, ThreadOrGate}
 use Rattle.book.specs.Sound.{Live, On, Used, Owned, timesHeld}
 use Rattle.book.specs.Placed.{Placed}
 use Rattle.book.specs.Shape.{Shape}
@@ -201,7 +201,7 @@ module _ (v : View) (area : List ℕ) (r : ℕ) (l c : Label) where
       obj-ext (objectAt (relabelled r l c v) area s) (edit (relabel m d) (objectAt v area s)) refl e f refl refl refl refl refl refl refl
 
   -- The labels of a thread or gate are edited.
-  pub relabelled-altered : Shape v → Live v r → codeOf v r ≤ 2 → length (l .words) ≡ wordCount → length (c .words) ≡ wordCount
+  pub relabelled-altered : Shape v → Live v r → ThreadOrGate (codeOf v r) → length (l .words) ≡ wordCount → length (c .words) ≡ wordCount
       → Altered v (relabelled r l c v) area area r (relabel l c)
   unfolding relabelled objectAt edit
   relabelled-altered z a k m n =
@@ -210,7 +210,7 @@ module _ (v : View) (area : List ℕ) (r : ℕ) (l c : Label) where
         alike = record { root-same = refl; id-same = refl; kind-same = refl; from-same = refl; to-same = refl };
         here =
             relabelled-object r l c (label-here v z r l c (a .low) m)
-            (ap₂ (λ (b : Bool) (d : Label). cond b d blank) (cleared-from (codeOf v r) (a .used) ∙ le-leb (codeOf v r) 2 k) (clearance-here v z r l c (a .low) n));
+            (ap₂ (λ (b : Bool) (d : Label). cond b d blank) (cleared-from (codeOf v r) (a .used) ∙ le-leb (codeOf v r) gateCode k) (clearance-here v z r l c (a .low) n));
         elsewhere = λ s b ne.
             relabelled-object s (labelOf v s) ((objectAt v area s) .clearance) (label-elsewhere v z r l c s ne m)
             (ap (λ (d : Label). cond (hasClearance (kindFrom (codeOf v s))) d blank) (clearance-elsewhere v z r l c s ne n));
@@ -251,7 +251,7 @@ module _ (v : View) (area : List ℕ) (r : ℕ) where
   fixed-object s b e = obj-ext (objectAt (fixedAt r v) area s) _ refl refl refl refl e refl refl refl refl refl
 
   -- A segment's quota is fixed.
-  pub fixed-altered : Shape v → Live v r → codeOf v r ≡ 3 → Altered v (fixedAt r v) area area r fix
+  pub fixed-altered : Shape v → Live v r → codeOf v r ≡ segmentCode → Altered v (fixedAt r v) area area r fix
   unfolding fixedAt objectAt edit
   fixed-altered z a k =
       record {
@@ -259,7 +259,7 @@ module _ (v : View) (area : List ℕ) (r : ℕ) where
         alike = record { root-same = refl; id-same = refl; kind-same = refl; from-same = refl; to-same = refl };
         here =
             fixed-object r true
-            (ap₂ (λ (b t : Bool). cond b t false) (segment-from (codeOf v r) ∙ eq-eqb (codeOf v r) 3 k) (eq-eqb (fixedOf (fixedAt r v) r) 1 (fixed-here v z r (a .low))));
+            (ap₂ (λ (b t : Bool). cond b t false) (segment-from (codeOf v r) ∙ eq-eqb (codeOf v r) segmentCode k) (eq-eqb (fixedOf (fixedAt r v) r) 1 (fixed-here v z r (a .low))));
         elsewhere = λ s b ne.
             fixed-object s ((objectAt v area s) .fixed)
             (ap (λ (n : ℕ). cond (isSegment (kindFrom (codeOf v s))) (eqb n 1) false) (fixed-elsewhere v z r s ne));
@@ -303,12 +303,12 @@ module _ (v : View) (area : List ℕ) (r q : ℕ) where
 
 module _ (v : View) (area : List ℕ) (p : Placed v) (z : Shape v) (r : ℕ) (a : Live v r) where
   -- What is left is the world with the object's labels edited,
-  pub relabelled-world : (l c : Label) → codeOf v r ≤ 2 → length (l .words) ≡ wordCount → length (c .words) ≡ wordCount
+  pub relabelled-world : (l c : Label) → ThreadOrGate (codeOf v r) → length (l .words) ≡ wordCount → length (c .words) ≡ wordCount
       → worldOf (movedOn (relabelled r l c v)) area ≡ apply (alter (idOf v r) (relabel l c)) (worldOf v area)
   relabelled-world l c k m n = altered-world v (relabelled r l c v) area area r (relabel l c) p a (relabelled-altered v area r l c z a k m n) z
 
   -- its quota fixed,
-  pub fixed-world : codeOf v r ≡ 3 → worldOf (movedOn (fixedAt r v)) area ≡ apply (alter (idOf v r) fix) (worldOf v area)
+  pub fixed-world : codeOf v r ≡ segmentCode → worldOf (movedOn (fixedAt r v)) area ≡ apply (alter (idOf v r) fix) (worldOf v area)
   fixed-world k = altered-world v (fixedAt r v) area area r fix p a (fixed-altered v area r z a k) z
 
   -- or its quota moved.
@@ -323,7 +323,7 @@ pub record AlikePlaced (v u : View) : Type 0 where
   pub len-same : u .len ≡ v .len
   pub owner-same : u .owner ≡ v .owner
   pub index-same : u .index ≡ v .index
-  pub fixed-most : (r : ℕ) → Live v r → codeOf v r ≡ 3 → fixedOf u r ≤ 1
+  pub fixed-most : (r : ℕ) → Live v r → codeOf v r ≡ segmentCode → fixedOf u r ≤ 1
 
 module _ (v u : View) (k : AlikePlaced v u) where
   live-back : (r : ℕ) → Live v r → Live u r
@@ -354,8 +354,8 @@ module _ (v u : View) (k : AlikePlaced v u) where
   placed-alike p =
       let a = k .alike in
       record {
-        code-most = λ r x. subst (λ (l : List ℕ). getD l r 0 ≤ 4) (sym (a .kind-same)) (p .code-most r (live-alike v u a r x));
-        fixed-most = λ r x e. k .fixed-most r (live-alike v u a r x) (subst (λ (l : List ℕ). getD l r 0 ≡ 3) (a .kind-same) e);
+        code-most = λ r x. subst (λ (l : List ℕ). getD l r 0 ≤ maxCode) (sym (a .kind-same)) (p .code-most r (live-alike v u a r x));
+        fixed-most = λ r x e. k .fixed-most r (live-alike v u a r x) (subst (λ (l : List ℕ). getD l r 0 ≡ segmentCode) (a .kind-same) e);
         ids-apart = λ r s x y h e.
             p .ids-apart r s (live-alike v u a r x) (live-alike v u a s y) h (subst (λ (l : List ℕ). getD l r 0 ≡ getD l s 0) (a .id-same) e);
         from-live = λ l x.
@@ -368,7 +368,7 @@ module _ (v u : View) (k : AlikePlaced v u) where
         owned = λ b x. owned-alike b (p .owned b (used-alike b x));
         blocks-once = λ r x e n h.
             held-alike r n
-            ∙ p .blocks-once r (live-alike v u a r x) (subst (λ (l : List ℕ). getD l r 0 ≡ 3) (a .kind-same) e) n
+            ∙ p .blocks-once r (live-alike v u a r x) (subst (λ (l : List ℕ). getD l r 0 ≡ segmentCode) (a .kind-same) e) n
             (subst (λ (l : List ℕ). n < blocksOf (getD l r 0)) (k .len-same) h);
       }
 

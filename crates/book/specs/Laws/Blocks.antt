@@ -10,7 +10,7 @@ use lib.Dec.{eqb}
 use borrow.Author.Tests.{eqb-true, eq-eqb}
 use Rattle.quotas.specs.Any.{both, both-of, both-parts}
 use Rattle.quotas.specs.Sum.{Σ, when, put, put-here, put-else, sum-change, sum-term, sum-only, found, when-true, when-false}
-use Rattle.rules.specs.Kernel.{blockSize}
+use Rattle.rules.specs.Kernel.{segmentCode, blockSize}
 use Rattle.rules.specs.Laws.Bools.{not-i}
 use Rattle.tables.specs.Layout.{View, blockCount}
 use Rattle.book.specs.declared.Found.the-variants.{At, Nothing}
@@ -46,7 +46,7 @@ module _ (v : View) (r : ℕ) where
   counted k x o i = when-true (isBlock v r k x) 1 (block-test k x o i)
 
   -- A segment of a book in order has the blocks that its length asks.
-  pub held : Placed v → Live v r → codeOf v r ≡ 3 → Held v r (blocksOf (lenOf v r))
+  pub held : Placed v → Live v r → codeOf v r ≡ segmentCode → Held v r (blocksOf (lenOf v r))
   unfolding timesHeld
   held p a e =
       record {
@@ -150,7 +150,7 @@ pub used-at : (v : View) → Placed v → (x : ℕ) → Used v x → blockAt v (
 used-at v p x u =
     let o = p .owned x u in
     let r = ownerOf v x - 1 in
-    let a = code-live v r 3 (o .owner-low) (o .owner-segment) (omega arith) in
+    let a = code-live v r segmentCode (o .owner-low) (o .owner-segment) (omega arith) in
     held-at v r (blocksOf (lenOf v r)) (held v r p a (o .owner-segment)) x (u .low) (positive (ownerOf v x) (u .used))
 
 -- Blocks at different rows or indices are different blocks,

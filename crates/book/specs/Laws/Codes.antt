@@ -5,12 +5,12 @@ use mathlib.Core.Bool.{Bool, true, false, not, _||_}
 use mathlib.Core.Path.{_≡_, refl, sym, _∙_, ap, ap₂}
 use lib.Dec.{eqb, leb}
 use borrow.Author.Tests.{eqb-true, eqb-false, eq-eqb, ne-eqb, le-leb, leb-true, leb-false}
-use Rattle.rules.specs.Kernel.{Kind, absent, thread, gate, segment, container, kindCode, isLive, isThread, isGate, isSegment, isContainer, hasClearance}
+use Rattle.rules.specs.Kernel.{threadCode, gateCode, segmentCode, containerCode, maxCode, Kind, absent, thread, gate, segment, container, kindCode, isLive, isThread, isGate, isSegment, isContainer, hasClearance}
 use Rattle.rules.specs.Laws.Bools.{bool-cases, same-by, or-cases, or-i-l, or-i-r}
-use Rattle.book.specs.Book.{kindFrom}
+use Rattle.book.specs.Book.{kindFrom, isThreadOrGate}
 
 -- The kind of a code has that code.
-pub code-from : (n : ℕ) → n ≤ 4 → kindCode (kindFrom n) ≡ n
+pub code-from : (n : ℕ) → n ≤ maxCode → kindCode (kindFrom n) ≡ n
 unfolding kindFrom kindCode
 code-from zero h = refl
 code-from (suc zero) h = refl
@@ -28,50 +28,50 @@ kind-from gate = refl
 kind-from segment = refl
 kind-from container = refl
 
--- Codes above 4 are no kind's.
-pub code-other : (n : ℕ) → 4 < n → kindFrom n ≡ absent
+-- Codes above the last are no kind's.
+pub code-other : (n : ℕ) → maxCode < n → kindFrom n ≡ absent
 unfolding kindFrom
-code-other n h = rw (ne-eqb n 1 (λ e. omega arith), ne-eqb n 2 (λ e. omega arith), ne-eqb n 3 (λ e. omega arith), ne-eqb n 4 (λ e. omega arith))
+code-other n h = rw (ne-eqb n threadCode (λ e. omega arith), ne-eqb n gateCode (λ e. omega arith), ne-eqb n segmentCode (λ e. omega arith), ne-eqb n containerCode (λ e. omega arith))
 
 -- a test of a code other than 0
-code-is : (n c : ℕ) → 1 ≤ c → c ≤ 4 → eqb (kindCode (kindFrom n)) c ≡ eqb n c
+code-is : (n c : ℕ) → 1 ≤ c → c ≤ maxCode → eqb (kindCode (kindFrom n)) c ≡ eqb n c
 code-is n c a b =
-    bool-cases (leb n 4)
-    (λ t. ap (λ (x : ℕ). eqb x c) (code-from n (leb-true n 4 t)))
-    (λ t. let h = leb-false n 4 t in
+    bool-cases (leb n maxCode)
+    (λ t. ap (λ (x : ℕ). eqb x c) (code-from n (leb-true n maxCode t)))
+    (λ t. let h = leb-false n maxCode t in
     ap (λ (k : Kind). eqb (kindCode k) c) (code-other n h) ∙ unfold kindCode in (ne-eqb 0 c (λ e. omega arith)) ∙ sym (ne-eqb n c (λ e. omega arith)))
 
 -- Each kind has its code.
-pub thread-from : (n : ℕ) → isThread (kindFrom n) ≡ eqb n 1
+pub thread-from : (n : ℕ) → isThread (kindFrom n) ≡ eqb n threadCode
 unfolding isThread
-thread-from n = code-is n 1 (omega arith) (omega arith)
+thread-from n = code-is n threadCode (omega arith) (omega arith)
 
-pub gate-from : (n : ℕ) → isGate (kindFrom n) ≡ eqb n 2
+pub gate-from : (n : ℕ) → isGate (kindFrom n) ≡ eqb n gateCode
 unfolding isGate
-gate-from n = code-is n 2 (omega arith) (omega arith)
+gate-from n = code-is n gateCode (omega arith) (omega arith)
 
-pub segment-from : (n : ℕ) → isSegment (kindFrom n) ≡ eqb n 3
+pub segment-from : (n : ℕ) → isSegment (kindFrom n) ≡ eqb n segmentCode
 unfolding isSegment
-segment-from n = code-is n 3 (omega arith) (omega arith)
+segment-from n = code-is n segmentCode (omega arith) (omega arith)
 
-pub container-from : (n : ℕ) → isContainer (kindFrom n) ≡ eqb n 4
+pub container-from : (n : ℕ) → isContainer (kindFrom n) ≡ eqb n containerCode
 unfolding isContainer
-container-from n = code-is n 4 (omega arith) (omega arith)
+container-from n = code-is n containerCode (omega arith) (omega arith)
 
 -- A row in use has a live kind.
-pub live-from : (n : ℕ) → n ≤ 4 → isLive (kindFrom n) ≡ not (eqb n 0)
+pub live-from : (n : ℕ) → n ≤ maxCode → isLive (kindFrom n) ≡ not (eqb n 0)
 unfolding isLive
 live-from n h = ap (λ (x : ℕ). not (eqb x 0)) (code-from n h)
 
--- Threads and gates are the codes up to 2.
-pub cleared-from : (n : ℕ) → (n ≡ 0 → ⊥) → hasClearance (kindFrom n) ≡ leb n 2
+-- Threads and gates are the codes up to a gate's.
+pub cleared-from : (n : ℕ) → (n ≡ 0 → ⊥) → hasClearance (kindFrom n) ≡ isThreadOrGate n
 unfolding hasClearance
 cleared-from n ne =
     ap₂ (λ (a b : Bool). a || b) (thread-from n) (gate-from n)
-    ∙ same-by (eqb n 1 || eqb n 2) (leb n 2)
-    (λ h. or-cases (eqb n 1) (eqb n 2) h
-    (λ t. le-leb n 2 (let e = eqb-true n 1 t in omega arith))
-    (λ t. le-leb n 2 (let e = eqb-true n 2 t in omega arith)))
-    (λ h. let m = leb-true n 2 h in
-    bool-cases (eqb n 1) (λ t. or-i-l (eqb n 1) (eqb n 2) t)
-    (λ t. let z = eqb-false n 1 t in or-i-r (eqb n 1) (eqb n 2) (eq-eqb n 2 (omega arith))))
+    ∙ same-by (eqb n threadCode || eqb n gateCode) (isThreadOrGate n)
+    (λ h. or-cases (eqb n threadCode) (eqb n gateCode) h
+    (λ t. le-leb n gateCode (let e = eqb-true n threadCode t in omega arith))
+    (λ t. le-leb n gateCode (let e = eqb-true n gateCode t in omega arith)))
+    (λ h. let m = leb-true n gateCode h in
+    bool-cases (eqb n threadCode) (λ t. or-i-l (eqb n threadCode) (eqb n gateCode) t)
+    (λ t. let z = eqb-false n threadCode t in or-i-r (eqb n threadCode) (eqb n gateCode) (eq-eqb n gateCode (omega arith))))

@@ -10,7 +10,7 @@ use lib.ListN.{length, getD}
 use lib.Dec.{eqb}
 use borrow.Author.Tests.{eqb-true, eqb-false, eq-eqb, ne-eqb, not-true, not-false}
 use Rattle.quotas.specs.Any.{any-of, any-found, both, either, both-of, both-parts, either-left, either-right, either-parts}
-use Rattle.rules.specs.Kernel.{under, below, stays, kept, rootQuota, blockSize}
+use Rattle.rules.specs.Kernel.{segmentCode, under, below, stays, kept, rootQuota, blockSize}
 use Rattle.rules.specs.Laws.Bools.{bool-cases, not-i, not-both, same-by}
 use Rattle.rules.specs.Laws.Below.{under-step, below-self, below-down, stays-linked, stays-not-below, stays-not-cut, stays-i, stays-kept, root-kept, kept-cases}
 use Rattle.tables.specs.Layout.{View, view, rowCount, linkCount, blockCount, onTab}
@@ -43,10 +43,10 @@ cond-not true x y = refl
 cond-not false x y = refl
 
 -- a code that is 3 or 0
-three-none : (t : Bool) → both true (eqb (cond t 3 0) 0) ≡ not t
+code-none : (t : Bool) → both true (eqb (cond t segmentCode 0) 0) ≡ not t
 unfolding both
-three-none true = refl
-three-none false = refl
+code-none true = refl
+code-none false = refl
 
 module _ (v : View) (area : List ℕ) (shape : Shape v) (s : Sound v) (l : ℕ) (on : On v l) where
   -- ---- a link goes
@@ -202,7 +202,7 @@ module _ (v : View) (area : List ℕ) (shape : Shape v) (s : Sound v) (l : ℕ) 
     -- the owner's code is 0 just if the owner is not kept
     owner-code : (b : ℕ) → Used v b
         → codeOf (rowsSwept u) (ownerOf (rowsSwept u) b - 1)
-        ≡ cond (kept (worldOf v area) (idOf v (fromOf v l)) (idOf v (toOf v l)) (idOf v (ownerOf v b - 1))) 3 0
+        ≡ cond (kept (worldOf v area) (idOf v (fromOf v l)) (idOf v (toOf v l)) (idOf v (ownerOf v b - 1))) segmentCode 0
     owner-code b a =
         let w = s .owned b a in
         ap (λ (n : ℕ). codeOf (rowsSwept u) (n - 1)) (swept-owner b)
@@ -214,7 +214,7 @@ module _ (v : View) (area : List ℕ) (shape : Shape v) (s : Sound v) (l : ℕ) 
         → orphan (rowsSwept u) b ≡ not (kept (worldOf v area) (idOf v (fromOf v l)) (idOf v (toOf v l)) (idOf v (ownerOf v b - 1)))
     orphan-kept b a =
         ap₂ both (ap not (ne-eqb (ownerOf (rowsSwept u) b) 0 (λ z. a .used (sym (swept-owner b) ∙ z)))) (ap (λ (n : ℕ). eqb n 0) (owner-code b a))
-        ∙ three-none (kept (worldOf v area) (idOf v (fromOf v l)) (idOf v (toOf v l)) (idOf v (ownerOf v b - 1)))
+        ∙ code-none (kept (worldOf v area) (idOf v (fromOf v l)) (idOf v (toOf v l)) (idOf v (ownerOf v b - 1)))
 
     block-left : (b : ℕ) → b < blockCount
         → cond (orphan (rowsSwept u) b) 0 (ownerOf (rowsSwept u) b)

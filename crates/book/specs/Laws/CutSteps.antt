@@ -10,6 +10,7 @@ use lib.ListN.{length, getD, set}
 use lib.Seq.{getD-set-same, getD-set-other}
 use lib.Dec.{eqb}
 use Rattle.quotas.specs.Sum.{Σ, when, sum-lt, when-true, when-false, when-le}
+use Rattle.rules.specs.Kernel.{containerCode}
 use Rattle.tables.specs.Layout.{View, view, size, rowCount, linkCount, onTab, putT}
 use Rattle.tables.specs.Layout.Laws.{linkFrom-long}
 use Rattle.book.specs.Book.{codeOf, markOf, fromOf, toOf, liveLink}
@@ -31,7 +32,7 @@ pub record Sofar (v : View) (l k : ℕ) (u : View) : Type 0 where
   pub rest : u ≡ onTab linkFromT (λ m. u .linkFrom) v
   pub only : (i : ℕ) → (Goes v l i × (markOf u i ≡ 0)) ⊎ (markOf u i ≡ markOf v i)
   pub off : markOf u l ≡ 0
-  pub shut : (i j : ℕ) → Goes v l i → markOf u i ≡ 0 → (i ≡ l → ⊥) → codeOf v (toOf v i) ≡ 4 → On u j → fromOf v j ≡ toOf v i → ⊥
+  pub shut : (i j : ℕ) → Goes v l i → markOf u i ≡ 0 → (i ≡ l → ⊥) → codeOf v (toOf v i) ≡ containerCode → On u j → fromOf v j ≡ toOf v i → ⊥
   pub seen : (j : ℕ) → j < k → On u j → fromOf v j ≡ toOf v l → ⊥
 
 module _ (v : View) (l : ℕ) (on : On v l) where
@@ -96,7 +97,7 @@ module _ (v : View) (l : ℕ) (on : On v l) where
           ];
         }
 
-    module _ (con : codeOf v (toOf v l) ≡ 4) (a : On u k) (here : fromOf u k ≡ toOf v l) where
+    module _ (con : codeOf v (toOf v l) ≡ containerCode) (a : On u k) (here : fromOf u k ≡ toOf v l) where
       -- what goes with a link in l's object goes with l
       widen : {i : ℕ} → Goes u k i → Goes v l i
       widen this = inside k this con (was-on u (s .only) k a) (sym (same-from k a) ∙ here)
@@ -124,7 +125,7 @@ module _ (v : View) (l : ℕ) (on : On v l) where
           left : (j : ℕ) → On w j → (Goes u k j → ⊥) × (On u j)
           left j b = ⊎-elim (λ g. absurd (b .used (g .1))) (λ g. (g .0, record { low = b .low; used = λ z. b .used (g .1 ∙ z) })) (f .each j)
 
-          shut₂ : (i j : ℕ) → Goes v l i → markOf w i ≡ 0 → (i ≡ l → ⊥) → codeOf v (toOf v i) ≡ 4 → On w j → fromOf v j ≡ toOf v i → ⊥
+          shut₂ : (i j : ℕ) → Goes v l i → markOf w i ≡ 0 → (i ≡ l → ⊥) → codeOf v (toOf v i) ≡ containerCode → On w j → fromOf v j ≡ toOf v i → ⊥
           shut₂ i j g z n c b e =
               let (out, x) = left j b in
               ⊎-elim
@@ -138,7 +139,7 @@ module _ (v : View) (l : ℕ) (on : On v l) where
               elim (ℕ-discrete j k) [ yes p ↦ out (subst (Goes u k) (sym p) this) | no np ↦ s .seen j (omega arith) x e ]
 
     -- Every link that goes is off, once all links in l's object were looked at.
-    pub done : (codeOf v (toOf v l) ≡ 4 → linkCount ≤ k) → Unlinked v l u
+    pub done : (codeOf v (toOf v l) ≡ containerCode → linkCount ≤ k) → Unlinked v l u
     done fin = record { rest = s .rest; each = each }
       where
         all-off : {i : ℕ} → Goes v l i → markOf u i ≡ 0
@@ -148,7 +149,7 @@ module _ (v : View) (l : ℕ) (on : On v l) where
             (λ q.
             let b : On u i = record { low = a .low; used = λ z. a .used (sym q ∙ z) } in
             absurd (elim (ℕ-discrete j l) [
-              | yes r ↦ s .seen i (omega (arith, fin (subst (λ (x : ℕ). codeOf v (toOf v x) ≡ 4) r c), a .low)) b (e ∙ ap (toOf v) r)
+              | yes r ↦ s .seen i (omega (arith, fin (subst (λ (x : ℕ). codeOf v (toOf v x) ≡ containerCode) r c), a .low)) b (e ∙ ap (toOf v) r)
               | no nr ↦ s .shut j i g (all-off g) nr c b e
             ]))
             (s .only i)
@@ -180,7 +181,7 @@ module _ (e : List ℕ) (l : ℕ) (ok : Linked e l) where
       pub next-linked : (o : ℕ) → m ≡ o + 1 → length b ≡ size → Linked b k
       next-linked o t long = record { sized = long; on = hit-on o t; ends = ends-kept }
 
-      pub next-turned : (o : ℕ) → m ≡ o + 1 → o ≡ toOf (view e) l → codeOf (view e) (toOf (view e) l) ≡ 4 → (w : View) → Unlinked (view b) k w → Sofar (view e) l (k + 1) w
+      pub next-turned : (o : ℕ) → m ≡ o + 1 → o ≡ toOf (view e) l → codeOf (view e) (toOf (view e) l) ≡ containerCode → (w : View) → Unlinked (view b) k w → Sofar (view e) l (k + 1) w
       next-turned o t eo con w f = turned (view e) l (ok .on) (view b) k s con (hit-on o t) (omega arith) w f
 
       pub next-skipped : (o : ℕ) → (m ≡ o + 1 → ⊥) → o ≡ toOf (view e) l → Sofar (view e) l (k + 1) (view b)
@@ -193,5 +194,5 @@ module _ (e : List ℕ) (l : ℕ) (ok : Linked e l) where
       ap (codeOf (view e)) (sym (ei ∙ eo)) ∙ ap (λ (y : View). codeOf y i) (sym q) ∙ sym ex
 
   -- No link in l's object is looked at, or all were.
-  pub all-done : (b : List ℕ) (k : ℕ) → Sofar (view e) l k (view b) → (codeOf (view e) (toOf (view e) l) ≡ 4 → linkCount ≤ k) → Unlinked (view e) l (view b)
+  pub all-done : (b : List ℕ) (k : ℕ) → Sofar (view e) l k (view b) → (codeOf (view e) (toOf (view e) l) ≡ containerCode → linkCount ≤ k) → Unlinked (view e) l (view b)
   all-done b k s fin = done (view e) l (ok .on) (view b) k s fin

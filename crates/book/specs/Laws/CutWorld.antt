@@ -11,7 +11,7 @@ use lib.Dec.{eqb}
 use borrow.Author.Tests.{eqb-true, eq-eqb, ne-eqb}
 use Rattle.quotas.specs.Any.{both, both-parts}
 use Rattle.quotas.specs.Sum.{when, sum-cong, sum-pos, when-pos}
-use Rattle.rules.specs.Kernel.{Obj, nothing, isGate, isSegment, isContainer, hasClearance, blank, cut, stays, kept, apply, blockSize, lastNumber}
+use Rattle.rules.specs.Kernel.{segmentCode, containerCode, Obj, nothing, isGate, isSegment, isContainer, hasClearance, blank, cut, stays, kept, apply, blockSize, lastNumber}
 use Rattle.rules.specs.Sound as W
 use Rattle.rules.specs.Laws.KeepCut.{keep-cut}
 use Rattle.rules.specs.Laws.Bools.{bool-cases, not-both, same-by}
@@ -88,10 +88,10 @@ unfolding objectAt objectWith
 object-with v area r = refl
 
 -- bytes count at segments only
-with-bytes : (v : View) (r c : ℕ) (x y : List ℕ) → (c ≡ 3 → x ≡ y) → objectWith v r c x ≡ objectWith v r c y
+with-bytes : (v : View) (r c : ℕ) (x y : List ℕ) → (c ≡ segmentCode → x ≡ y) → objectWith v r c x ≡ objectWith v r c y
 with-bytes v r c x y h =
-    bool-cases (eqb c 3)
-    (λ t. ap (objectWith v r c) (h (eqb-true c 3 t)))
+    bool-cases (eqb c segmentCode)
+    (λ t. ap (objectWith v r c) (h (eqb-true c segmentCode t)))
     (λ t. unfold objectWith in (rw (segment-from c ∙ t)))
 
 pub record Left (v : View) (area : List ℕ) (d o : ℕ) (u : View) : Type 0 where
@@ -200,7 +200,7 @@ module _ (v : View) (area : List ℕ) (shape : Shape v) (s : Sound v) (d o : ℕ
       let c = p .from-live l on in
       row-stays (fromOf v l) c
       (container-kept (worldOf v area) (world-sound v area shape s) d o (idOf v (fromOf v l))
-      (container-at v area p (fromOf v l) c ∙ eq-eqb (codeOf v (fromOf v l)) 4 (s .ends l on .from-container))
+      (container-at v area p (fromOf v l) c ∙ eq-eqb (codeOf v (fromOf v l)) containerCode (s .ends l on .from-container))
       (stays-not-below (worldOf v area) d o (idOf v (fromOf v l)) (idOf v (toOf v l)) (link-kept l a)))
 
   block-owned : (b : ℕ) → Used u b → Owned u b
@@ -272,7 +272,7 @@ module _ (v : View) (area : List ℕ) (shape : Shape v) (s : Sound v) (d o : ℕ
         (ap (λ (i : ℕ). kept (worldOf v area) d o (idOf v i)) z ∙ k)
 
     -- a byte of a segment that is kept
-    byte-same : (r i : ℕ) → Live v r → codeOf v r ≡ 3 → kept (worldOf v area) d o (idOf v r) ≡ true → i < lenOf v r
+    byte-same : (r i : ℕ) → Live v r → codeOf v r ≡ segmentCode → kept (worldOf v area) d o (idOf v r) ≡ true → i < lenOf v r
         → getD left (placeOf u r i) 0 ≡ getD area (placeOf v r i) 0
     byte-same r i a c k h =
         let n = i / blockSize in
@@ -286,7 +286,7 @@ module _ (v : View) (area : List ℕ) (shape : Shape v) (s : Sound v) (d o : ℕ
         ∙ place-same r m (i % blockSize) owner low (omega arith) k
         ∙ ap (λ (x : ℕ). getD area x 0) (sym (place-in v r i m found))
 
-    bytes-same : (r : ℕ) → Live v r → codeOf v r ≡ 3 → kept (worldOf v area) d o (idOf v r) ≡ true → bytesOf u left r ≡ bytesOf v area r
+    bytes-same : (r : ℕ) → Live v r → codeOf v r ≡ segmentCode → kept (worldOf v area) d o (idOf v r) ≡ true → bytesOf u left r ≡ bytesOf v area r
     unfolding bytesOf
     bytes-same r a c k =
         ap (λ (n : ℕ). collect n (λ i. getD left (placeOf u r i) 0)) (f .len r)

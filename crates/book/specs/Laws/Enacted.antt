@@ -7,7 +7,7 @@ use mathlib.Core.Path.{_≡_, sym, _∙_, ap, ap₂, subst}
 use mathlib.Core.List.{List}
 use borrow.Author.Tests.{eqb-true, le-leb}
 use Rattle.labels.specs.declared.Label.{Label}
-use Rattle.rules.specs.Kernel.{isLive, isThread, isSegment, isContainer, Edit, relabel, fix, requota, Change, keep, alter, apply, lastNumber}
+use Rattle.rules.specs.Kernel.{threadCode, segmentCode, isLive, isThread, isSegment, isContainer, Edit, relabel, fix, requota, Change, keep, alter, apply, lastNumber}
 use Rattle.rules.specs.Sound as W
 use Rattle.rules.specs.Fair.{Fair}
 use Rattle.rules.specs.Laws.Bools.{or-cases}
@@ -77,7 +77,7 @@ module _ (v : View) (area : List ℕ) (s : Sound v) (z : Shape v) (o : ℕ) wher
   unfolding alteredView alteredArea
   relabel-enacted l c f =
       at-row (thread-live (((worldOf v area) .obj o) .kind) (f .is-thread)) (λ r a i h.
-      let k = eqb-true (codeOf v r) 1 (sym (thread-at v area (placed v s) r a) ∙ ap (λ (n : ℕ). isThread (((worldOf v area) .obj n) .kind)) i ∙ f .is-thread) in
+      let k = eqb-true (codeOf v r) threadCode (sym (thread-at v area (placed v s) r a) ∙ ap (λ (n : ℕ). isThread (((worldOf v area) .obj n) .kind)) i ∙ f .is-thread) in
       alter-enacted v area o r (relabel l c) h
       (relabelled-world v area (placed v s) z r a l c (omega arith) (f .label-words) (f .clearance-words) ∙ ap (λ (n : ℕ). apply (alter n (relabel l c)) (worldOf v area)) i)
       (relabelled-placed v r l c (placed v s))
@@ -88,7 +88,7 @@ module _ (v : View) (area : List ℕ) (s : Sound v) (z : Shape v) (o : ℕ) wher
   unfolding alteredView alteredArea
   fix-enacted f =
       at-row (segment-live (((worldOf v area) .obj o) .kind) f) (λ r a i h.
-      let k = eqb-true (codeOf v r) 3 (sym (segment-at v area (placed v s) r a) ∙ ap (λ (n : ℕ). isSegment (((worldOf v area) .obj n) .kind)) i ∙ f) in
+      let k = eqb-true (codeOf v r) segmentCode (sym (segment-at v area (placed v s) r a) ∙ ap (λ (n : ℕ). isSegment (((worldOf v area) .obj n) .kind)) i ∙ f) in
       alter-enacted v area o r fix h
       (fixed-world v area (placed v s) z r a k ∙ ap (λ (n : ℕ). apply (alter n fix) (worldOf v area)) i)
       (fixed-placed v r z (placed v s))

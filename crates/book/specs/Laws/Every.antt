@@ -6,7 +6,7 @@ use mathlib.Core.Path.{_≡_, sym, _∙_, ap}
 use mathlib.Core.List.{List}
 use lib.ListN.{length}
 use borrow.Author.Tests.{eqb-true}
-use Rattle.rules.specs.Kernel.{isLive, isSegment, relabel, fix, requota, rewrite, Change, keep, alter, create, cut, link, apply, lastNumber}
+use Rattle.rules.specs.Kernel.{segmentCode, isLive, isSegment, relabel, fix, requota, rewrite, Change, keep, alter, create, cut, link, apply, lastNumber}
 use Rattle.rules.specs.Fair.{Fair}
 use Rattle.rules.specs.Laws.Kinds.{segment-live}
 use Rattle.tables.specs.Layout.{View}
@@ -40,9 +40,9 @@ module _ (v : View) (area : List ℕ) (s : Sound v) (z : Shape v) where
       k r a i (ap (rowOf v) (sym i) ∙ row-found v (placed v s) r a)
 
   -- the code of a segment's row
-  segment-code : (o r : ℕ) → Live v r → idOf v r ≡ o → isSegment (((worldOf v area) .obj o) .kind) ≡ true → codeOf v r ≡ 3
+  segment-code : (o r : ℕ) → Live v r → idOf v r ≡ o → isSegment (((worldOf v area) .obj o) .kind) ≡ true → codeOf v r ≡ segmentCode
   segment-code o r a i e =
-      eqb-true (codeOf v r) 3 (sym (segment-at v area (placed v s) r a) ∙ ap (λ (n : ℕ). isSegment (((worldOf v area) .obj n) .kind)) i ∙ e)
+      eqb-true (codeOf v r) segmentCode (sym (segment-at v area (placed v s) r a) ∙ ap (λ (n : ℕ). isSegment (((worldOf v area) .obj n) .kind)) i ∙ e)
 
   -- a link is cut with all that hangs on it;
   pub cut-enacted : (d o : ℕ) → Enacted (cut d o) v area

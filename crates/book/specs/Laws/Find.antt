@@ -9,7 +9,7 @@ use borrow.Author.Tests.{eqb-true, eqb-false, eq-eqb, ne-eqb}
 use Rattle.labels.specs.declared.Label.{Label}
 use Rattle.labels.specs.Core.{mayRead}
 use Rattle.quotas.specs.Any.{both, both-of, both-parts}
-use Rattle.rules.specs.Kernel.{kindCode, isThread, isContainer, Obj, nothing, opens, entry}
+use Rattle.rules.specs.Kernel.{threadCode, containerCode, kindCode, isThread, isContainer, Obj, nothing, opens, entry}
 use Rattle.rules.specs.Laws.Bools.{bool-cases, not-i, not-both}
 use Rattle.rules.specs.Laws.Kinds.{nothing-no-container}
 use Rattle.tables.specs.Layout.{View, rowCount, linkCount}
@@ -84,7 +84,7 @@ pub kind-row : (k : ℕ) (v : View) (o r : ℕ) → rowOfKind k v o ≡ At r →
 kind-row k v o r h = let (e, q) = kind-is k v o r h in let (a, i) = row-is v o r e in (a, i, q)
 
 pub container-low : (v : View) (o r : ℕ) → containerRow v o ≡ At r → r < rowCount
-container-low v o r e = row-low v o r (kind-is 4 v o r e .0)
+container-low v o r e = row-low v o r (kind-is containerCode v o r e .0)
 
 -- The entry by what the three lookups find.
 module _ (v : View) (d o : ℕ) where
@@ -114,16 +114,16 @@ module _ (v : View) (area : List ℕ) (o : ℕ) where
   -- Where a thread's row is found, the world has a thread with that id, and it is the object at the row.
   pub thread-found : (r : ℕ) → threadRow v o ≡ At r → (isThread (((worldOf v area) .obj o) .kind) ≡ true) × ((worldOf v area) .obj o ≡ objectAt v area r)
   thread-found r h =
-      let (e, q) = kind-is 1 v o r h in
+      let (e, q) = kind-is threadCode v o r h in
       let x = obj-found v area o r e in
-      (ap (λ (y : Obj). isThread (y .kind)) x ∙ object-thread v area r ∙ eq-eqb (codeOf v r) 1 q, x)
+      (ap (λ (y : Obj). isThread (y .kind)) x ∙ object-thread v area r ∙ eq-eqb (codeOf v r) threadCode q, x)
 
   -- Where none is found, the id is no thread's.
   pub thread-none : threadRow v o ≡ Nothing → isThread (((worldOf v area) .obj o) .kind) ≡ false
   thread-none h =
       found-cases (rowOf v o)
       (λ r e. ap (λ (y : Obj). isThread (y .kind)) (obj-found v area o r e) ∙ object-thread v area r
-      ∙ ne-eqb (codeOf v r) 1 (λ q. no-place r (sym (kind-hit 1 v o r e q) ∙ h)))
+      ∙ ne-eqb (codeOf v r) threadCode (λ q. no-place r (sym (kind-hit threadCode v o r e q) ∙ h)))
       (λ e. ap (λ (y : Obj). isThread (y .kind)) (obj-missing v area o e) ∙ nothing-no-thread)
 
   -- So the row of every thread is found.
@@ -133,15 +133,15 @@ module _ (v : View) (area : List ℕ) (o : ℕ) where
   -- The same of containers.
   pub container-found : (r : ℕ) → containerRow v o ≡ At r → (isContainer (((worldOf v area) .obj o) .kind) ≡ true) × ((worldOf v area) .obj o ≡ objectAt v area r)
   container-found r h =
-      let (e, q) = kind-is 4 v o r h in
+      let (e, q) = kind-is containerCode v o r h in
       let x = obj-found v area o r e in
-      (ap (λ (y : Obj). isContainer (y .kind)) x ∙ object-container v area r ∙ eq-eqb (codeOf v r) 4 q, x)
+      (ap (λ (y : Obj). isContainer (y .kind)) x ∙ object-container v area r ∙ eq-eqb (codeOf v r) containerCode q, x)
 
   pub container-none : containerRow v o ≡ Nothing → isContainer (((worldOf v area) .obj o) .kind) ≡ false
   container-none h =
       found-cases (rowOf v o)
       (λ r e. ap (λ (y : Obj). isContainer (y .kind)) (obj-found v area o r e) ∙ object-container v area r
-      ∙ ne-eqb (codeOf v r) 4 (λ q. no-place r (sym (kind-hit 4 v o r e q) ∙ h)))
+      ∙ ne-eqb (codeOf v r) containerCode (λ q. no-place r (sym (kind-hit containerCode v o r e q) ∙ h)))
       (λ e. ap (λ (y : Obj). isContainer (y .kind)) (obj-missing v area o e) ∙ nothing-no-container)
 
   pub container-some : isContainer (((worldOf v area) .obj o) .kind) ≡ true → (r : ℕ) × (containerRow v o ≡ At r)
@@ -229,7 +229,7 @@ module _ (v : View) (d o : ℕ) where
   entry-found area c r l h =
       let (e, f, g) = entry-parts c r l h in
       let (k, x) = container-found v area d c e in
-      let (a, i) = row-is v d c (kind-is 4 v d c e .0) in
+      let (a, i) = row-is v d c (kind-is containerCode v d c e .0) in
       let (b, j) = row-is v o r f in
       let (on, s, t) = link-found v c r l g in
       record {
@@ -254,7 +254,7 @@ module _ (v : View) (d o : ℕ) where
   entry-missing area p c e h =
       not-i ((worldOf v area) .linked d o) (λ t.
       let (l, on, s, u) = linked-is v area d o t in
-      let (a, i) = row-is v d c (kind-is 4 v d c e .0) in
+      let (a, i) = row-is v d c (kind-is containerCode v d c e .0) in
       let b = p .to-live l on in
       let f : rowOf v o ≡ At (toOf v l) = ap (rowOf v) (sym u) ∙ row-found v p (toOf v l) b in
       found-cases (linkBetween v c (toOf v l))

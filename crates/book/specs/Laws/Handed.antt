@@ -7,7 +7,7 @@ use lib.ListN.{length, replicate, take, length-replicate}
 use lib.Seq.{take-at, take-all}
 use Rattle.labels.specs.declared.Label.{Label}
 use Rattle.labels.specs.Core.{wordCount, plain}
-use Rattle.rules.specs.Kernel.{kindCode, blank, threadOf, gateOf, segmentOf, containerOf, textSize}
+use Rattle.rules.specs.Kernel.{threadCode, gateCode, segmentCode, containerCode, kindCode, blank, threadOf, gateOf, segmentOf, containerOf, textSize}
 use Rattle.tables.specs.Layout.{View, putT, runT}
 use Rattle.book.specs.declared.make.NewRow.{NewRow}
 use Rattle.book.specs.Enact.{idT, kindT, maskT, fixedT, quotaT, lenT, entryT, labelDefaultT, labelWordsT, clearDefaultT, clearWordsT, descriptionT, closureT, padded, relabelled, rowFilled}
@@ -52,7 +52,7 @@ filled-is r id n s x v h =
 module _ (label : Label) (s : List ℕ) (low : label .default < 256) (long : length (label .words) ≡ wordCount) (text : length s ≡ textSize) where
   -- A thread has no mask, entry or closure, and quota 1,
   pub thread-handed : (clearance : Label) → clearance .default < 256 → length (clearance .words) ≡ wordCount
-      → Handed (record { kind = 1; mask = 0; quota = 1; entry = 0; label = label; clearance = clearance }) s (replicate textSize 0)
+      → Handed (record { kind = threadCode; mask = 0; quota = 1; entry = 0; label = label; clearance = clearance }) s (replicate textSize 0)
   unfolding objectOf threadOf kindCode
   thread-handed clearance clow clong =
       record {
@@ -75,7 +75,7 @@ module _ (label : Label) (s : List ℕ) (low : label .default < 256) (long : len
   -- a gate no mask, and quota 1,
   pub gate-handed : (clearance : Label) → clearance .default < 256 → length (clearance .words) ≡ wordCount
       → (entry : ℕ) (x : List ℕ) → length x ≡ textSize
-      → Handed (record { kind = 2; mask = 0; quota = 1; entry = entry; label = label; clearance = clearance }) s x
+      → Handed (record { kind = gateCode; mask = 0; quota = 1; entry = entry; label = label; clearance = clearance }) s x
   unfolding objectOf gateOf kindCode
   gate-handed clearance clow clong entry x xlong =
       record {
@@ -96,7 +96,7 @@ module _ (label : Label) (s : List ℕ) (low : label .default < 256) (long : len
       }
 
   -- a segment no mask, entry, clearance or closure,
-  pub segment-handed : (quota : ℕ) → Handed (record { kind = 3; mask = 0; quota = quota; entry = 0; label = label; clearance = plain 0 }) s (replicate textSize 0)
+  pub segment-handed : (quota : ℕ) → Handed (record { kind = segmentCode; mask = 0; quota = quota; entry = 0; label = label; clearance = plain 0 }) s (replicate textSize 0)
   unfolding objectOf segmentOf kindCode blank
   segment-handed quota =
       record {
@@ -117,7 +117,7 @@ module _ (label : Label) (s : List ℕ) (low : label .default < 256) (long : len
       }
 
   -- and a container no entry, clearance or closure.
-  pub container-handed : (mask quota : ℕ) → Handed (record { kind = 4; mask = mask; quota = quota; entry = 0; label = label; clearance = plain 0 }) s (replicate textSize 0)
+  pub container-handed : (mask quota : ℕ) → Handed (record { kind = containerCode; mask = mask; quota = quota; entry = 0; label = label; clearance = plain 0 }) s (replicate textSize 0)
   unfolding objectOf containerOf kindCode blank
   container-handed mask quota =
       record {
@@ -139,21 +139,21 @@ module _ (label : Label) (s : List ℕ) (low : label .default < 256) (long : len
 
 -- Each is the object of the rules.
 pub thread-object : (label clearance : Label) (s x : List ℕ)
-    → objectOf (record { kind = 1; mask = 0; quota = 1; entry = 0; label = label; clearance = clearance }) s x ≡ threadOf label clearance s
+    → objectOf (record { kind = threadCode; mask = 0; quota = 1; entry = 0; label = label; clearance = clearance }) s x ≡ threadOf label clearance s
 unfolding objectOf
 thread-object label clearance s x = refl
 
 pub gate-object : (label clearance : Label) (entry : ℕ) (s x : List ℕ)
-    → objectOf (record { kind = 2; mask = 0; quota = 1; entry = entry; label = label; clearance = clearance }) s x ≡ gateOf label clearance entry x s
+    → objectOf (record { kind = gateCode; mask = 0; quota = 1; entry = entry; label = label; clearance = clearance }) s x ≡ gateOf label clearance entry x s
 unfolding objectOf
 gate-object label clearance entry s x = refl
 
 pub segment-object : (label : Label) (quota : ℕ) (s x : List ℕ)
-    → objectOf (record { kind = 3; mask = 0; quota = quota; entry = 0; label = label; clearance = plain 0 }) s x ≡ segmentOf label s quota
+    → objectOf (record { kind = segmentCode; mask = 0; quota = quota; entry = 0; label = label; clearance = plain 0 }) s x ≡ segmentOf label s quota
 unfolding objectOf
 segment-object label quota s x = refl
 
 pub container-object : (label : Label) (mask quota : ℕ) (s x : List ℕ)
-    → objectOf (record { kind = 4; mask = mask; quota = quota; entry = 0; label = label; clearance = plain 0 }) s x ≡ containerOf label s mask quota
+    → objectOf (record { kind = containerCode; mask = mask; quota = quota; entry = 0; label = label; clearance = plain 0 }) s x ≡ containerOf label s mask quota
 unfolding objectOf
 container-object label mask quota s x = refl

@@ -9,7 +9,7 @@ use Rattle.labels.specs.declared.Label.{Label}
 use Rattle.labels.specs.Core.{wellFormed, flows}
 use Rattle.quotas.specs.Any.{any, both, either}
 use Rattle.tables.specs.Layout.{View}
-use Rattle.book.specs.Book.{nextOf, idOf, codeOf, labelOf, clearanceOf, markOf, toOf, liveRow, hasId}
+use Rattle.book.specs.Book.{nextOf, idOf, codeOf, labelOf, clearanceOf, markOf, toOf, liveRow, hasId, isThreadOrGate}
 use Rattle.book.specs.Sound.{linksTo}
 use Rattle.book.specs.Test.{every, clearB, labelB, sameB, onceB}
 
@@ -63,13 +63,15 @@ clear-read v r l c n el ec en t et =
     ∙ ap (λ (m : ℕ). wellFormed m false c && flows l c) (sym en)
     ∙ ap (λ (x : Bool). x && flows l c) et
 
-pub label-read : (v : View) (r k : ℕ) (l : Label) (n : ℕ) → k ≡ codeOf v r → l ≡ labelOf v r → n ≡ nextOf v → (t : Bool) → wellFormed n (leb k 2) l ≡ t → labelB v r ≡ (t && cond (leb k 2) (clearB v r) true)
+pub label-read : (v : View) (r k : ℕ) (s : Bool) (l : Label) (n : ℕ) → k ≡ codeOf v r → s ≡ isThreadOrGate k → l ≡ labelOf v r → n ≡ nextOf v
+    → (t : Bool) → wellFormed n s l ≡ t → labelB v r ≡ (t && cond s (clearB v r) true)
 unfolding labelB
-label-read v r k l n ek el en t et =
-    ap (λ (x : Label). wellFormed (nextOf v) (leb (codeOf v r) 2) x && cond (leb (codeOf v r) 2) (clearB v r) true) (sym el)
-    ∙ ap (λ (x : ℕ). wellFormed (nextOf v) (leb x 2) l && cond (leb x 2) (clearB v r) true) (sym ek)
-    ∙ ap (λ (m : ℕ). wellFormed m (leb k 2) l && cond (leb k 2) (clearB v r) true) (sym en)
-    ∙ ap (λ (x : Bool). x && cond (leb k 2) (clearB v r) true) et
+label-read v r k s l n ek es el en t et =
+    ap (λ (x : Label). wellFormed (nextOf v) (isThreadOrGate (codeOf v r)) x && cond (isThreadOrGate (codeOf v r)) (clearB v r) true) (sym el)
+    ∙ ap (λ (x : ℕ). wellFormed (nextOf v) (isThreadOrGate x) l && cond (isThreadOrGate x) (clearB v r) true) (sym ek)
+    ∙ ap (λ (x : Bool). wellFormed (nextOf v) x l && cond x (clearB v r) true) (sym es)
+    ∙ ap (λ (m : ℕ). wellFormed m s l && cond s (clearB v r) true) (sym en)
+    ∙ ap (λ (x : Bool). x && cond s (clearB v r) true) et
 
 -- ---- links, by what was counted
 

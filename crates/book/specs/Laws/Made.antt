@@ -6,7 +6,7 @@ use mathlib.Core.Bool.{true, false}
 use mathlib.Core.Path.{_≡_, sym, _∙_, ap, subst}
 use mathlib.Core.List.{List}
 use borrow.Author.Tests.{eqb-true}
-use Rattle.rules.specs.Kernel.{isLive, isContainer, Obj, useOf, spareOf, create, link, apply}
+use Rattle.rules.specs.Kernel.{containerCode, isLive, isContainer, Obj, useOf, spareOf, create, link, apply}
 use Rattle.rules.specs.Fair.{Fair, Made}
 use Rattle.rules.specs.Laws.Kinds.{segment-live, container-live}
 use Rattle.tables.specs.Layout.{View}
@@ -31,10 +31,10 @@ module _ (v : View) (area : List ℕ) (z : Shape v) (s : Sound v) where
   spare-some d n h k = omega arith
 
   -- the row of a container
-  container-row : (d : ℕ) → isContainer (((worldOf v area) .obj d) .kind) ≡ true → (c : ℕ) × (Live v c) × (idOf v c ≡ d) × (codeOf v c ≡ 4)
+  container-row : (d : ℕ) → isContainer (((worldOf v area) .obj d) .kind) ≡ true → (c : ℕ) × (Live v c) × (idOf v c ≡ d) × (codeOf v c ≡ containerCode)
   container-row d t =
       let (c, a, i) = live-row v area d (container-live (((worldOf v area) .obj d) .kind) t) in
-      (c, a, i, eqb-true (codeOf v c) 4 (sym (container-at v area (placed v s) c a) ∙ ap (λ (n : ℕ). isContainer (((worldOf v area) .obj n) .kind)) i ∙ t))
+      (c, a, i, eqb-true (codeOf v c) containerCode (sym (container-at v area (placed v s) c a) ∙ ap (λ (n : ℕ). isContainer (((worldOf v area) .obj n) .kind)) i ∙ t))
 
   -- ---- a create
 

@@ -11,7 +11,7 @@ use lib.Seq.{getD-set-same, getD-set-other}
 use lib.Dec.{eqb}
 use borrow.Author.Tests.{eqb-true, eq-eqb}
 use Rattle.quotas.specs.Any.{both, both-of, both-parts}
-use Rattle.rules.specs.Kernel.{Kind, absent, thread, gate, segment, container, Obj, World, kindCode, create, link, put, linkIn, apply, spareOf}
+use Rattle.rules.specs.Kernel.{segmentCode, containerCode, maxCode, Kind, absent, thread, gate, segment, container, Obj, World, kindCode, create, link, put, linkIn, apply, spareOf}
 use Rattle.rules.specs.Laws.Bools.{not-i, not-both, same-by}
 use Rattle.rules.specs.Laws.Put.{put-same, put-other, link-new, link-old, link-cases}
 use Rattle.tables.specs.Layout.{View, rowCount, linkCount, blockCount}
@@ -155,7 +155,7 @@ module _ (v : View) (z : Shape v) (p : Placed v) (r id : ℕ) (x : Obj) (f : Fre
   held-filled s k = refl
 
   -- Positions stay in order.
-  pub filled-placed : kindCode (x .kind) ≤ 4 → Placed (rowFilled r id x v)
+  pub filled-placed : kindCode (x .kind) ≤ maxCode → Placed (rowFilled r id x v)
   filled-placed most =
       record {
         code-most = λ s a. elim (ℕ-discrete s r) [
@@ -272,11 +272,11 @@ module _ (v : View) (z : Shape v) (l c o : ℕ) (h : l < linkCount) (free : mark
   linked-live r a = record { low = a .low; used = a .used }
 
   -- the tables of rows and blocks stay
-  linked-code : Placed v → (r : ℕ) → Live (linkFilled l c o v) r → codeOf (linkFilled l c o v) r ≤ 4
+  linked-code : Placed v → (r : ℕ) → Live (linkFilled l c o v) r → codeOf (linkFilled l c o v) r ≤ maxCode
   unfolding linkFilled
   linked-code p r a = p .code-most r (record { low = a .low; used = a .used })
 
-  linked-fixed : Placed v → (r : ℕ) → Live (linkFilled l c o v) r → codeOf (linkFilled l c o v) r ≡ 3 → fixedOf (linkFilled l c o v) r ≤ 1
+  linked-fixed : Placed v → (r : ℕ) → Live (linkFilled l c o v) r → codeOf (linkFilled l c o v) r ≡ segmentCode → fixedOf (linkFilled l c o v) r ≤ 1
   unfolding linkFilled
   linked-fixed p r a = p .fixed-most r (record { low = a .low; used = a .used })
 
@@ -286,7 +286,7 @@ module _ (v : View) (z : Shape v) (l c o : ℕ) (h : l < linkCount) (free : mark
       let w = p .owned b (record { low = a .low; used = a .used }) in
       record { owner-low = w .owner-low; owner-segment = w .owner-segment; within = w .within }
 
-  linked-once : Placed v → (r : ℕ) → Live (linkFilled l c o v) r → codeOf (linkFilled l c o v) r ≡ 3
+  linked-once : Placed v → (r : ℕ) → Live (linkFilled l c o v) r → codeOf (linkFilled l c o v) r ≡ segmentCode
       → (k : ℕ) → k < blocksOf (lenOf (linkFilled l c o v) r) → timesHeld (linkFilled l c o v) r k ≡ 1
   unfolding linkFilled timesHeld
   linked-once p r a = p .blocks-once r (record { low = a .low; used = a .used })
@@ -351,7 +351,7 @@ moved-obj v area o =
     (λ e. obj-missing (movedOn v) area o (moved-row v o ∙ e) ∙ sym (obj-missing v area o e))
 
 -- Codes of kinds go up to 4.
-pub kind-most : (k : Kind) → kindCode k ≤ 4
+pub kind-most : (k : Kind) → kindCode k ≤ maxCode
 unfolding kindCode
 kind-most absent = omega arith
 kind-most thread = omega arith
@@ -434,7 +434,7 @@ module _ (v : View) (area : List ℕ) (z : Shape v) (s : Sound v) (c : ℕ) (a :
   create-shape = moved-shape (linkFilled l c r filled) (linked-shape filled long l c r (link-low v l place) spot)
 
 -- Where the container has spare, a row and a link are found.
-pub create-room : (v : View) (area : List ℕ) → Sound v → (c : ℕ) → Live v c → codeOf v c ≡ 4 → 1 ≤ spareOf (worldOf v area) (idOf v c)
+pub create-room : (v : View) (area : List ℕ) → Sound v → (c : ℕ) → Live v c → codeOf v c ≡ containerCode → 1 ≤ spareOf (worldOf v area) (idOf v c)
     → (r : ℕ) × (l : ℕ) × (freeRow v ≡ At r) × (freeLink v ≡ At l)
 unfolding freeRow freeLink
 create-room v area s c a e h =
@@ -467,7 +467,7 @@ module _ (v : View) (area : List ℕ) (z : Shape v) (s : Sound v) (c o : ℕ) (a
   link-shape = moved-shape (linkFilled l c o v) (linked-shape v z l c o (link-low v l place) (link-free v l place))
 
 -- Where the container has spare, a link is found.
-pub link-room : (v : View) (area : List ℕ) → Sound v → (c : ℕ) → Live v c → codeOf v c ≡ 4 → 1 ≤ spareOf (worldOf v area) (idOf v c)
+pub link-room : (v : View) (area : List ℕ) → Sound v → (c : ℕ) → Live v c → codeOf v c ≡ containerCode → 1 ≤ spareOf (worldOf v area) (idOf v c)
     → (l : ℕ) × (freeLink v ≡ At l)
 unfolding freeLink
 link-room v area s c a e h = spare-link-room v s area c a e h

@@ -10,6 +10,7 @@ use lib.Dec.{eqb, ltb}
 use borrow.Author.Tests.{eq-eqb, ne-eqb, eqb-true, eqb-false, lt-ltb, ltb-true}
 use Rattle.quotas.specs.Any.{both-parts, both-of}
 use Rattle.quotas.specs.Sum.{Σ, when, sum-cong, sum-none, sum-lt, sum-only, sum-swap, sum-when, sum-mono, when-true, when-false, when-cong, when-none}
+use Rattle.rules.specs.Kernel.{segmentCode}
 use Rattle.tables.specs.Layout.{View, rowCount, blockCount}
 use Rattle.book.specs.Book.{codeOf, lenOf, ownerOf, indexOf, blocksOf, isBlock}
 use Rattle.book.specs.Sound.{Used, Owned, timesHeld}
@@ -67,14 +68,14 @@ block-is v r k b t =
 
 -- the blocks that the segment at row r needs, and those it has of these
 abbrev Needs : View → ℕ → ℕ
-Needs v r = when (eqb (codeOf v r) 3) (blocksOf (lenOf v r))
+Needs v r = when (eqb (codeOf v r) segmentCode) (blocksOf (lenOf v r))
 
 abbrev Has : View → ℕ → ℕ
-Has v r = when (eqb (codeOf v r) 3) (Σ (blocksOf (lenOf v r)) (λ k. timesHeld v r k))
+Has v r = when (eqb (codeOf v r) segmentCode) (Σ (blocksOf (lenOf v r)) (λ k. timesHeld v r k))
 
 -- "each segment has exactly its blocks"
 abbrev pub Whole : View → Type 0
-Whole v = (r : ℕ) → r < rowCount → codeOf v r ≡ 3 → (k : ℕ) → k < blocksOf (lenOf v r) → timesHeld v r k ≡ 1
+Whole v = (r : ℕ) → r < rowCount → codeOf v r ≡ segmentCode → (k : ℕ) → k < blocksOf (lenOf v r) → timesHeld v r k ≡ 1
 
 -- no used block below b has its owner and index
 abbrev pub Alone : View → ℕ → Type 0
@@ -83,13 +84,13 @@ Alone v b = (c : ℕ) → c < b → ownerOf v b ≡ ownerOf v c → indexOf v b 
 module _ (v : View) where
   -- what block b counts for at row r
   One : ℕ → ℕ → ℕ
-  One b r = when (eqb (codeOf v r) 3) (Σ (blocksOf (lenOf v r)) (λ k. when (isBlock v r k b) 1))
+  One b r = when (eqb (codeOf v r) segmentCode) (Σ (blocksOf (lenOf v r)) (λ k. when (isBlock v r k b) 1))
 
   -- a block counts for nothing at rows that are not its owner's
   none-at : (b r : ℕ) → (ownerOf v b ≡ r + 1 → ⊥) → One b r ≡ 0
   unfolding One
   none-at b r ne =
-      when-none (eqb (codeOf v r) 3) _ (λ t.
+      when-none (eqb (codeOf v r) segmentCode) _ (λ t.
       sum-none (blocksOf (lenOf v r)) (λ k. when (isBlock v r k b) 1) (λ k l.
       when-none (isBlock v r k b) 1 (λ s. absurd (ne (block-is v r k b s .0)))))
 
@@ -99,7 +100,7 @@ module _ (v : View) where
   one-at b u w =
       let r = ownerOf v b - 1 in
       let o : ownerOf v b ≡ r + 1 = up (ownerOf v b) (u .used) in
-      when-true (eqb (codeOf v r) 3) _ (eq-eqb (codeOf v r) 3 (w .owner-segment))
+      when-true (eqb (codeOf v r) segmentCode) _ (eq-eqb (codeOf v r) segmentCode (w .owner-segment))
       ∙ sum-only (blocksOf (lenOf v r)) (λ k. when (isBlock v r k b) 1) (indexOf v b) (w .within) (λ k l ne. when-none (isBlock v r k b) 1 (λ s. absurd (ne (sym (block-is v r k b s .1)))))
       ∙ when-true (isBlock v r (indexOf v b) b) 1 (block-here v r (indexOf v b) b o refl)
 
@@ -124,8 +125,8 @@ module _ (v : View) where
       sum-cong blockCount (λ b. when (not (eqb (ownerOf v b) 0)) 1) (λ b. Σ rowCount (One b)) (λ b l. counts b l (f b))
       ∙ sum-swap blockCount rowCount (λ b r. One b r)
       ∙ sum-cong rowCount (λ r. Σ blockCount (λ b. One b r)) (Has v) (λ r l.
-      sum-when blockCount (eqb (codeOf v r) 3) (λ b. Σ (blocksOf (lenOf v r)) (λ k. when (isBlock v r k b) 1))
-      ∙ ap (when (eqb (codeOf v r) 3)) (sum-swap blockCount (blocksOf (lenOf v r)) (λ b k. when (isBlock v r k b) 1)))
+      sum-when blockCount (eqb (codeOf v r) segmentCode) (λ b. Σ (blocksOf (lenOf v r)) (λ k. when (isBlock v r k b) 1))
+      ∙ ap (when (eqb (codeOf v r) segmentCode)) (sum-swap blockCount (blocksOf (lenOf v r)) (λ b k. when (isBlock v r k b) 1)))
 
   -- none twice: each at most once
   held-most : ((b : ℕ) → Used v b → Alone v b) → (r k : ℕ) → timesHeld v r k ≤ 1
@@ -138,17 +139,17 @@ module _ (v : View) where
 
   has-most : ((b : ℕ) → Used v b → Alone v b) → (r : ℕ) → Has v r ≤ Needs v r
   has-most g r =
-      when-mono (eqb (codeOf v r) 3) (Σ (blocksOf (lenOf v r)) (λ k. timesHeld v r k)) (blocksOf (lenOf v r))
+      when-mono (eqb (codeOf v r) segmentCode) (Σ (blocksOf (lenOf v r)) (λ k. timesHeld v r k)) (blocksOf (lenOf v r))
       (omega (arith, sum-mono (blocksOf (lenOf v r)) (λ k. timesHeld v r k) (λ k. 1) (λ k l. held-most g r k), ones (blocksOf (lenOf v r))))
 
   -- As many as are needed, none twice: each once.
   whole-of : ((b : ℕ) → Used v b → Owned v b) → ((b : ℕ) → Used v b → Alone v b) → usedBlocks v ≡ neededBlocks v → Whole v
   unfolding neededBlocks
   whole-of f g e r low c k l =
-      let t = eq-eqb (codeOf v r) 3 c in
+      let t = eq-eqb (codeOf v r) segmentCode c in
       let n = blocksOf (lenOf v r) in
       let z = sum-tight rowCount (Has v) (Needs v) (λ i q. has-most g i) (sym (used-has f) ∙ e) r low in
-      let s : Σ n (λ k. timesHeld v r k) ≡ n = sym (when-true (eqb (codeOf v r) 3) _ t) ∙ z ∙ when-true (eqb (codeOf v r) 3) _ t in
+      let s : Σ n (λ k. timesHeld v r k) ≡ n = sym (when-true (eqb (codeOf v r) segmentCode) _ t) ∙ z ∙ when-true (eqb (codeOf v r) segmentCode) _ t in
       sum-tight n (λ k. timesHeld v r k) (λ k. 1) (λ k l. held-most g r k) (s ∙ sym (ones n)) k l
 
   -- Each once: as many as are needed.
@@ -157,8 +158,8 @@ module _ (v : View) where
   count-by f w =
       used-has f
       ∙ sum-cong rowCount (Has v) (Needs v) (λ r low.
-      when-cong (eqb (codeOf v r) 3) _ _ (λ t.
-      sum-cong (blocksOf (lenOf v r)) (λ k. timesHeld v r k) (λ k. 1) (λ k l. w r low (eqb-true (codeOf v r) 3 t) k l) ∙ ones (blocksOf (lenOf v r))))
+      when-cong (eqb (codeOf v r) segmentCode) _ _ (λ t.
+      sum-cong (blocksOf (lenOf v r)) (λ k. timesHeld v r k) (λ k. 1) (λ k l. w r low (eqb-true (codeOf v r) segmentCode t) k l) ∙ ones (blocksOf (lenOf v r))))
 
   -- Each once: no two are the same one.
   alone-by : ((b : ℕ) → Used v b → Owned v b) → Whole v → (b : ℕ) → Used v b → Alone v b
@@ -186,8 +187,8 @@ module _ (v : View) where
       let z = and-r (ltb r rowCount) _ h in
       record {
         owner-low = ltb-true r rowCount (and-l (ltb r rowCount) _ h);
-        owner-segment = eqb-true (codeOf v r) 3 (and-l (eqb (codeOf v r) 3) _ z);
-        within = ltb-true (indexOf v b) (blocksOf (lenOf v r)) (and-r (eqb (codeOf v r) 3) _ z);
+        owner-segment = eqb-true (codeOf v r) segmentCode (and-l (eqb (codeOf v r) segmentCode) _ z);
+        within = ltb-true (indexOf v b) (blocksOf (lenOf v r)) (and-r (eqb (codeOf v r) segmentCode) _ z);
       }
 
   -- A used block is its segment's, and no block below is the same one.
@@ -204,7 +205,7 @@ module _ (v : View) where
       unless-by (eqb (ownerOf v b) 0) _ (λ e.
       let p = f (record { low = low; used = eqb-false (ownerOf v b) 0 e }) in
       let s = p .0 in
-      rw (lt-ltb (ownerOf v b - 1) rowCount (s .owner-low), eq-eqb (codeOf v (ownerOf v b - 1)) 3 (s .owner-segment), lt-ltb (indexOf v b) (blocksOf (lenOf v (ownerOf v b - 1))) (s .within))
+      rw (lt-ltb (ownerOf v b - 1) rowCount (s .owner-low), eq-eqb (codeOf v (ownerOf v b - 1)) segmentCode (s .owner-segment), lt-ltb (indexOf v b) (blocksOf (lenOf v (ownerOf v b - 1))) (s .within))
       (every-by b (λ c. not (twinB v b c)) (λ c l.
       not-by (twinB v b c) (λ t.
       p .1 c l (eqb-true (ownerOf v b) (ownerOf v c) (and-l (eqb (ownerOf v b) (ownerOf v c)) _ t)) (eqb-true (indexOf v b) (indexOf v c) (and-r (eqb (ownerOf v b) (ownerOf v c)) _ t))))))

@@ -9,6 +9,7 @@ use lib.Bits.{bitOr}
 use lib.Dec.{eqb, ltb, leb}
 use borrow.Author.Tests.{eq-eqb, ne-eqb, eqb-true, eqb-false, lt-ltb, ltb-true, leb-true}
 use Rattle.quotas.specs.Sum.{Σ, when, sum-term, when-true}
+use Rattle.rules.specs.Kernel.{containerCode}
 use Rattle.tables.specs.Layout.{View, rowCount, linkCount}
 use Rattle.book.specs.Book.{codeOf, maskOf, markOf, fromOf, toOf, liveLink}
 use Rattle.book.specs.Sound.{On, Ends, linksTo}
@@ -33,7 +34,7 @@ pred-same (suc x) (suc y) p q e = omega arith
 
 -- "a child's mask includes its parent's"
 abbrev pub Masked : View → ℕ → Type 0
-Masked v l = codeOf v (toOf v l) ≡ 4 → bitOr (maskOf v (toOf v l)) (maskOf v (fromOf v l)) ≡ maskOf v (toOf v l)
+Masked v l = codeOf v (toOf v l) ≡ containerCode → bitOr (maskOf v (toOf v l)) (maskOf v (fromOf v l)) ≡ maskOf v (toOf v l)
 
 -- no live link below l is the same
 abbrev pub Apart : View → ℕ → Type 0
@@ -47,15 +48,15 @@ module _ (v : View) where
       let h = unless (eqb (markOf v l) 0) (endsB v l) g (ne-eqb (markOf v l) 0 (on .used)) in
       let h1 = and-r (ltb (fromOf v l) rowCount) _ h in
       let h2 = and-r (ltb (toOf v l) rowCount) _ h1 in
-      let h3 = and-r (eqb (codeOf v (fromOf v l)) 4) _ h2 in
+      let h3 = and-r (eqb (codeOf v (fromOf v l)) containerCode) _ h2 in
       let h4 = and-r (not (eqb (codeOf v (toOf v l)) 0)) _ h3 in (
         record {
           from-low = ltb-true (fromOf v l) rowCount (and-l (ltb (fromOf v l) rowCount) _ h);
-          from-container = eqb-true (codeOf v (fromOf v l)) 4 (and-l (eqb (codeOf v (fromOf v l)) 4) _ h2);
+          from-container = eqb-true (codeOf v (fromOf v l)) containerCode (and-l (eqb (codeOf v (fromOf v l)) containerCode) _ h2);
           to-low = ltb-true (toOf v l) rowCount (and-l (ltb (toOf v l) rowCount) _ h1);
           to-live = λ e. not-of (eqb (codeOf v (toOf v l)) 0) (and-l (not (eqb (codeOf v (toOf v l)) 0)) _ h3) (eq-eqb (codeOf v (toOf v l)) 0 e);
         },
-        λ e. eqb-true _ _ (only (eqb (codeOf v (toOf v l)) 4) _ h4 (eq-eqb (codeOf v (toOf v l)) 4 e)),
+        λ e. eqb-true _ _ (only (eqb (codeOf v (toOf v l)) containerCode) _ h4 (eq-eqb (codeOf v (toOf v l)) containerCode e)),
       )
 
   pub link-by : (l : ℕ) → l < linkCount → (On v l → Ends v l × Masked v l) → linkB v l ≡ true
@@ -64,8 +65,8 @@ module _ (v : View) where
       unless-by (eqb (markOf v l) 0) _ (λ e.
       let p = f (record { low = low; used = eqb-false (markOf v l) 0 e }) in
       let s = p .0 in
-      rw (lt-ltb (fromOf v l) rowCount (s .from-low), lt-ltb (toOf v l) rowCount (s .to-low), eq-eqb (codeOf v (fromOf v l)) 4 (s .from-container), not-by (eqb (codeOf v (toOf v l)) 0) (λ t. s .to-live (eqb-true (codeOf v (toOf v l)) 0 t)))
-      (only-by (eqb (codeOf v (toOf v l)) 4) _ (λ t. eq-eqb _ _ (p .1 (eqb-true (codeOf v (toOf v l)) 4 t)))))
+      rw (lt-ltb (fromOf v l) rowCount (s .from-low), lt-ltb (toOf v l) rowCount (s .to-low), eq-eqb (codeOf v (fromOf v l)) containerCode (s .from-container), not-by (eqb (codeOf v (toOf v l)) 0) (λ t. s .to-live (eqb-true (codeOf v (toOf v l)) 0 t)))
+      (only-by (eqb (codeOf v (toOf v l)) containerCode) _ (λ t. eq-eqb _ _ (p .1 (eqb-true (codeOf v (toOf v l)) containerCode t)))))
 
   -- a live link counts at its object
   counted : (l o : ℕ) → On v l → toOf v l ≡ o → when (liveLink v l) (when (eqb (toOf v l) o) 1) ≡ 1

@@ -11,7 +11,7 @@ use lib.ListN.{length, getD, List·getD-eq-default}
 use lib.Dec.{eqb, leb, ltb}
 use borrow.Author.Tests.{eqb-true, leb-true, leb-false, ltb-true, ltb-false, le-leb, lt-leb}
 use Rattle.quotas.specs.Any.{no-both, both-parts}
-use Rattle.rules.specs.Kernel.{blockSize, rewrite, alter, resized, apply, units}
+use Rattle.rules.specs.Kernel.{segmentCode, blockSize, rewrite, alter, resized, apply, units}
 use Rattle.rules.specs.Laws.Bools.{bool-cases}
 use Rattle.rules.specs.Laws.Bytes.{resized-at}
 use Rattle.rules.specs.Laws.Lengths.{resized-length}
@@ -109,7 +109,7 @@ module _ (v : View) (area : List ℕ) (r n : ℕ) where
 
 -- ---- each byte
 
-module _ (v : View) (shape : Shape v) (p : Placed v) (r : ℕ) (a : Live v r) (c : codeOf v r ≡ 3) (area : List ℕ) (long : length area ≡ areaSize) (n : ℕ) where
+module _ (v : View) (shape : Shape v) (p : Placed v) (r : ℕ) (a : Live v r) (c : codeOf v r ≡ segmentCode) (area : List ℕ) (long : length area ≡ areaSize) (n : ℕ) where
   holding : Held v r (blocksOf (lenOf v r))
   holding = held v r p a c
 
@@ -199,9 +199,9 @@ module _ (v : View) (shape : Shape v) (p : Placed v) (r : ℕ) (a : Live v r) (c
 
 -- ---- the world
 
-module _ (v : View) (shape : Shape v) (s : Sound v) (r : ℕ) (low : r < rowCount) (c : codeOf v r ≡ 3) (n : ℕ) (fits : units n ≤ quotaOf v r) where
+module _ (v : View) (shape : Shape v) (s : Sound v) (r : ℕ) (low : r < rowCount) (c : codeOf v r ≡ segmentCode) (n : ℕ) (fits : units n ≤ quotaOf v r) where
   live : Live v r
-  live = code-live v r 3 low c (omega arith)
+  live = code-live v r segmentCode low c (omega arith)
 
   room : blocksOf n ≤ blocksOf (lenOf v r) + freeBlocks v
   room = block-room v s r n low c fits

@@ -11,7 +11,7 @@ use lib.Seq.{getD-set-same, getD-set-other}
 use lib.Dec.{eqb}
 use borrow.Author.Tests.{eqb-true, eqb-false, eq-eqb, ne-eqb, lt-ltb, le-ltb, le-leb, lt-leb}
 use Rattle.quotas.specs.Any.{both}
-use Rattle.rules.specs.Kernel.{blockSize, rewrite, alter, edit, put, apply}
+use Rattle.rules.specs.Kernel.{segmentCode, blockSize, rewrite, alter, edit, put, apply}
 use Rattle.rules.specs.Laws.Bools.{bool-cases}
 use Rattle.rules.specs.Laws.Put.{put-same, put-other}
 use Rattle.tables.specs.Layout.{View, rowCount, blockCount, onTab}
@@ -78,7 +78,7 @@ module _ (v u : View) (r : ℕ) (b area : List ℕ) (j : ℕ) where
 -- row r is a segment, has the blocks of n bytes by u, and every other row has its own
 pub record Rewritten (v u : View) (r n : ℕ) : Type 0 where
   pub live : Live v r
-  pub segment : codeOf v r ≡ 3
+  pub segment : codeOf v r ≡ segmentCode
   pub own : Held u r (blocksOf n)
   pub others : Others v u r
   pub len-own : lenOf u r ≡ n
@@ -185,13 +185,13 @@ module _ (r n : ℕ) (o i : List ℕ) (v : View) (area b : List ℕ) (p : Placed
 
   other-object : (s : ℕ) → Live v s → (s ≡ r → ⊥) → objectAt (movedOn (relong r n o i v)) (areaAfter v (relong r n o i v) r b area) s ≡ objectAt v area s
   other-object s a ne =
-      same-object r n o i v area (areaAfter v (relong r n o i v) r b area) s (bool-cases (eqb (codeOf v s) 3)
-      (λ t. let c = eqb-true (codeOf v s) 3 t in
+      same-object r n o i v area (areaAfter v (relong r n o i v) r b area) s (bool-cases (eqb (codeOf v s) segmentCode)
+      (λ t. let c = eqb-true (codeOf v s) segmentCode t in
       object-bytes (movedOn (relong r n o i v)) (areaAfter v (relong r n o i v) r b area) s (same-code s ∙ c)
       ∙ moved-bytes (relong r n o i v) (areaAfter v (relong r n o i v) r b area) s
       ∙ bytes-other v (relong r n o i v) r n x area b s (blocksOf (lenOf v s)) ne (held v s p a c) (omega arith)
       ∙ sym (object-bytes v area s c))
-      (λ t. let c = eqb-false (codeOf v s) 3 t in
+      (λ t. let c = eqb-false (codeOf v s) segmentCode t in
       object-no-bytes (movedOn (relong r n o i v)) (areaAfter v (relong r n o i v) r b area) s (λ z. c (sym (same-code s) ∙ z))
       ∙ sym (object-no-bytes v area s c)))
 
@@ -261,7 +261,7 @@ relong-placed r n o i v p x =
               }
         ]
 
-    once : (s : ℕ) → Live (relong r n o i v) s → codeOf (relong r n o i v) s ≡ 3 → (k : ℕ) → k < blocksOf (lenOf (relong r n o i v) s) → timesHeld (relong r n o i v) s k ≡ 1
+    once : (s : ℕ) → Live (relong r n o i v) s → codeOf (relong r n o i v) s ≡ segmentCode → (k : ℕ) → k < blocksOf (lenOf (relong r n o i v) s) → timesHeld (relong r n o i v) s k ≡ 1
     once s a e k l = elim (ℕ-discrete s r) [
       | yes z ↦ subst (λ (t : ℕ). timesHeld (relong r n o i v) t k ≡ 1) (sym z)
           (held-once (relong r n o i v) r (blocksOf n) (x .own) k (subst (λ (m : ℕ). k < blocksOf m) (ap (lenOf (relong r n o i v)) z ∙ x .len-own) l))
@@ -275,7 +275,7 @@ relong-shape r n o i v lo li s =
 
 -- ---- said of the book whose segment was given another length
 
-module _ (v : View) (shape : Shape v) (p : Placed v) (r : ℕ) (a : Live v r) (c : codeOf v r ≡ 3) where
+module _ (v : View) (shape : Shape v) (p : Placed v) (r : ℕ) (a : Live v r) (c : codeOf v r ≡ segmentCode) where
   -- row r is n bytes long
   pub lengthened-len : (n : ℕ) → lenOf (lengthened r n v) r ≡ n
   lengthened-len n = ap (λ (u : View). lenOf u r) (lengthened-is r n v) ∙ getD-set-same (v .len) r n 0 (omega (arith, shape .len-long, a .low))

@@ -12,7 +12,7 @@ use Rattle.quotas.specs.Sum.{Σ, when, sum-cong, sum-swap, sum-none, sum-pick, 
 use Rattle.quotas.specs.Tree as tree
 use Rattle.quotas.specs.Room.{row-free, link-free}
 use Rattle.quotas.specs.Reach.{Blocks, blocks-held}
-use Rattle.rules.specs.Kernel.{spareOf, units}
+use Rattle.rules.specs.Kernel.{segmentCode, containerCode, spareOf, units}
 use Rattle.rules.specs.Laws.Bools.{bool-cases, not-i, not-both, same-by}
 use Rattle.tables.specs.Layout.{View, rowCount, linkCount, blockCount}
 use Rattle.book.specs.declared.Found.the-variants.{At}
@@ -26,55 +26,55 @@ use Rattle.book.specs.Laws.WorldSound.{placed}
 
 -- what a row holds
 abbrev pub holds : View → ℕ → ℕ
-holds v r = cond (eqb (codeOf v r) 3) (units (lenOf v r)) 1
+holds v r = cond (eqb (codeOf v r) segmentCode) (units (lenOf v r)) 1
 
 -- the book as a tree of rows
 abbrev pub rowsOf : View → tree.View
-rowsOf v = record { live = liveRow v; con = λ r. eqb (codeOf v r) 4; quota = quotaOf v; hold = holds v; on = liveLink v; par = fromOf v; obj = toOf v }
+rowsOf v = record { live = liveRow v; con = λ r. eqb (codeOf v r) containerCode; quota = quotaOf v; hold = holds v; on = liveLink v; par = fromOf v; obj = toOf v }
 
 module _ (v : View) (s : Sound v) where
   root-live : Live v (s .root .0)
-  root-live = code-live v (s .root .0) 4 (s .root .1 .low) (s .root .1 .is-container) (omega arith)
+  root-live = code-live v (s .root .0) containerCode (s .root .1 .low) (s .root .1 .is-container) (omega arith)
 
   -- a live row other than the root has another id
   other-id : (r : ℕ) → Live v r → (r ≡ s .root .0 → ⊥) → idOf v r ≡ rootOf v → ⊥
   other-id r a ne e = ne (same-row v (placed v s) r (s .root .0) a root-live (e ∙ sym (s .root .1 .has-id)))
 
-  is-con : (c : ℕ) → c < rowCount → eqb (codeOf v c) 4 ≡ true → Live v c
-  is-con c l t = code-live v c 4 l (eqb-true (codeOf v c) 4 t) (omega arith)
+  is-con : (c : ℕ) → c < rowCount → eqb (codeOf v c) containerCode ≡ true → Live v c
+  is-con c l t = code-live v c containerCode l (eqb-true (codeOf v c) containerCode t) (omega arith)
 
-  one-link : (c : ℕ) → c < rowCount → eqb (codeOf v c) 4 ≡ true → (c ≡ s .root .0 → ⊥) → linksTo v c ≡ 1
+  one-link : (c : ℕ) → c < rowCount → eqb (codeOf v c) containerCode ≡ true → (c ≡ s .root .0 → ⊥) → linksTo v c ≡ 1
   one-link c l t ne =
       let a = is-con c l t in
-      let e = eqb-true (codeOf v c) 4 t in
+      let e = eqb-true (codeOf v c) containerCode t in
       omega (arith, s .some-link c a (other-id c a ne), s .one-link c a (λ q. let z = q .0 in omega arith))
 
   -- a thread, gate or segment is not the root
-  some-link : (r : ℕ) → r < rowCount → liveRow v r ≡ true → eqb (codeOf v r) 4 ≡ false → 1 ≤ linksTo v r
+  some-link : (r : ℕ) → r < rowCount → liveRow v r ≡ true → eqb (codeOf v r) containerCode ≡ false → 1 ≤ linksTo v r
   some-link r l t n =
       let a = test-live v r l t in
-      s .some-link r a (other-id r a (λ e. eqb-false (codeOf v r) 4 n (ap (codeOf v) e ∙ s .root .1 .is-container)))
+      s .some-link r a (other-id r a (λ e. eqb-false (codeOf v r) containerCode n (ap (codeOf v) e ∙ s .root .1 .is-container)))
 
-  holding : (r : ℕ) → Live v r → (b : Bool) → eqb (codeOf v r) 3 ≡ b → (1 ≤ cond b (units (lenOf v r)) 1) × (cond b (units (lenOf v r)) 1 ≤ quotaOf v r)
-  holding r a true e = (unfold units in (omega arith), s .segment-fits r a (eqb-true (codeOf v r) 3 e))
+  holding : (r : ℕ) → Live v r → (b : Bool) → eqb (codeOf v r) segmentCode ≡ b → (1 ≤ cond b (units (lenOf v r)) 1) × (cond b (units (lenOf v r)) 1 ≤ quotaOf v r)
+  holding r a true e = (unfold units in (omega arith), s .segment-fits r a (eqb-true (codeOf v r) segmentCode e))
   holding r a false e = (omega arith, s .ranges r a .quota-some)
 
   pub tree-sound : tree.Sound (rowsOf v) rowCount linkCount (s .root .0)
   unfolding tree.links tree.use-of tree.linked linksTo chargedTo
   tree-sound =
       record {
-        par-con = λ l h t. let e = s .ends l (test-on v l h t) in (e .from-low, eq-eqb (codeOf v (fromOf v l)) 4 (e .from-container));
+        par-con = λ l h t. let e = s .ends l (test-on v l h t) in (e .from-low, eq-eqb (codeOf v (fromOf v l)) containerCode (e .from-container));
         obj-live = λ l h t. let e = s .ends l (test-on v l h t) in (e .to-low, live-test v (toOf v l) (record { low = e .to-low; used = e .to-live }));
-        con-live = λ c t. ap not (ne-eqb (codeOf v c) 0 (λ z. let e = eqb-true (codeOf v c) 4 t in omega arith));
+        con-live = λ c t. ap not (ne-eqb (codeOf v c) 0 (λ z. let e = eqb-true (codeOf v c) containerCode t in omega arith));
         root-in = s .root .1 .low;
-        root-con = eq-eqb (codeOf v (s .root .0)) 4 (s .root .1 .is-container);
+        root-con = eq-eqb (codeOf v (s .root .0)) containerCode (s .root .1 .is-container);
         root-quota = s .root .1 .quota-all;
         root-none = s .root .1 .no-link;
         one = one-link;
         some = some-link;
-        fits = λ c h t. s .container-fits c (is-con c h t) (eqb-true (codeOf v c) 4 t);
-        holds = λ r h t. holding r (test-live v r h t) (eqb (codeOf v r) 3) refl;
-        con-holds = λ c t. let z = ne-eqb (codeOf v c) 3 (λ e. let f = eqb-true (codeOf v c) 4 t in omega arith) in rw z;
+        fits = λ c h t. s .container-fits c (is-con c h t) (eqb-true (codeOf v c) containerCode t);
+        holds = λ r h t. holding r (test-live v r h t) (eqb (codeOf v r) segmentCode) refl;
+        con-holds = λ c t. let z = ne-eqb (codeOf v c) segmentCode (λ e. let f = eqb-true (codeOf v c) containerCode t in omega arith) in rw z;
       }
 
   -- ---- rows and links
@@ -84,26 +84,26 @@ module _ (v : View) (s : Sound v) where
   spare-there c h = h
 
   -- Where a container has spare, a row is free,
-  pub row-room : (c : ℕ) → c < rowCount → codeOf v c ≡ 4 → 1 ≤ quotaOf v c - (1 + chargedTo v c) → (r : ℕ) × (first rowCount (λ r. eqb (codeOf v r) 0) ≡ At r)
+  pub row-room : (c : ℕ) → c < rowCount → codeOf v c ≡ containerCode → 1 ≤ quotaOf v c - (1 + chargedTo v c) → (r : ℕ) × (first rowCount (λ r. eqb (codeOf v r) 0) ≡ At r)
   row-room c l e h =
-      let (r, a, b) = row-free (rowsOf v) rowCount linkCount (s .root .0) tree-sound refl c l (eq-eqb (codeOf v c) 4 e) (spare-there c h) in
+      let (r, a, b) = row-free (rowsOf v) rowCount linkCount (s .root .0) tree-sound refl c l (eq-eqb (codeOf v c) containerCode e) (spare-there c h) in
       first-some rowCount (λ r. eqb (codeOf v r) 0) r a (not-false (eqb (codeOf v r) 0) b)
 
   -- and a link.
-  pub link-room : (c : ℕ) → c < rowCount → codeOf v c ≡ 4 → 1 ≤ quotaOf v c - (1 + chargedTo v c) → (l : ℕ) × (first linkCount (λ l. eqb (markOf v l) 0) ≡ At l)
+  pub link-room : (c : ℕ) → c < rowCount → codeOf v c ≡ containerCode → 1 ≤ quotaOf v c - (1 + chargedTo v c) → (l : ℕ) × (first linkCount (λ l. eqb (markOf v l) 0) ≡ At l)
   link-room c l e h =
-      let (k, a, b) = link-free (rowsOf v) rowCount linkCount (s .root .0) tree-sound (omega arith) c l (eq-eqb (codeOf v c) 4 e) (spare-there c h) in
+      let (k, a, b) = link-free (rowsOf v) rowCount linkCount (s .root .0) tree-sound (omega arith) c l (eq-eqb (codeOf v c) containerCode e) (spare-there c h) in
       first-some linkCount (λ k. eqb (markOf v k) 0) k a (not-false (eqb (markOf v k) 0) b)
 
   -- The same by the spare of the world.
-  spare-row : (area : List ℕ) (c : ℕ) → Live v c → codeOf v c ≡ 4 → 1 ≤ spareOf (worldOf v area) (idOf v c) → 1 ≤ quotaOf v c - (1 + chargedTo v c)
+  spare-row : (area : List ℕ) (c : ℕ) → Live v c → codeOf v c ≡ containerCode → 1 ≤ spareOf (worldOf v area) (idOf v c) → 1 ≤ quotaOf v c - (1 + chargedTo v c)
   spare-row area c a e h = subst (λ (n : ℕ). 1 ≤ n) (spare-container-at v area (placed v s) (s .ids-below) c a e) h
 
-  pub spare-row-room : (area : List ℕ) (c : ℕ) → Live v c → codeOf v c ≡ 4 → 1 ≤ spareOf (worldOf v area) (idOf v c)
+  pub spare-row-room : (area : List ℕ) (c : ℕ) → Live v c → codeOf v c ≡ containerCode → 1 ≤ spareOf (worldOf v area) (idOf v c)
       → (r : ℕ) × (first rowCount (λ r. eqb (codeOf v r) 0) ≡ At r)
   spare-row-room area c a e h = row-room c (a .low) e (spare-row area c a e h)
 
-  pub spare-link-room : (area : List ℕ) (c : ℕ) → Live v c → codeOf v c ≡ 4 → 1 ≤ spareOf (worldOf v area) (idOf v c)
+  pub spare-link-room : (area : List ℕ) (c : ℕ) → Live v c → codeOf v c ≡ containerCode → 1 ≤ spareOf (worldOf v area) (idOf v c)
       → (l : ℕ) × (first linkCount (λ l. eqb (markOf v l) 0) ≡ At l)
   spare-link-room area c a e h = link-room c (a .low) e (spare-row area c a e h)
 
@@ -183,7 +183,7 @@ module _ (v : View) (s : Sound v) where
       (λ k h. when-false (isBlock v r k b) 1 (not-i (isBlock v r k b) (λ q. not-both (eqb (ownerOf v b) (r + 1)) (both-parts (eqb (ownerOf v b) (r + 1)) (eqb (indexOf v b) k) q .0) t)))))
 
   -- a segment has as many blocks as its length asks
-  counted : (r : ℕ) → Live v r → codeOf v r ≡ 3 → Σ blockCount (λ b. when (not (eqb (ownerOf v b) 0)) (when (eqb (ownerOf v b - 1) r) 1)) ≡ blocksOf (lenOf v r)
+  counted : (r : ℕ) → Live v r → codeOf v r ≡ segmentCode → Σ blockCount (λ b. when (not (eqb (ownerOf v b) 0)) (when (eqb (ownerOf v b - 1) r) 1)) ≡ blocksOf (lenOf v r)
   unfolding timesHeld
   counted r a e =
       sum-cong blockCount (λ b. when (not (eqb (ownerOf v b) 0)) (when (eqb (ownerOf v b - 1) r) 1)) (λ b. Σ (blocksOf (lenOf v r)) (λ k. when (isBlock v r k b) 1))
@@ -193,7 +193,7 @@ module _ (v : View) (s : Sound v) where
       ∙ sum-ones (blocksOf (lenOf v r))
 
   -- what is no segment has none
-  none-owned : (r : ℕ) → (codeOf v r ≡ 3 → ⊥) → Σ blockCount (λ b. when (not (eqb (ownerOf v b) 0)) (when (eqb (ownerOf v b - 1) r) 1)) ≡ 0
+  none-owned : (r : ℕ) → (codeOf v r ≡ segmentCode → ⊥) → Σ blockCount (λ b. when (not (eqb (ownerOf v b) 0)) (when (eqb (ownerOf v b - 1) r) 1)) ≡ 0
   none-owned r ne =
       sum-none blockCount (λ b. when (not (eqb (ownerOf v b) 0)) (when (eqb (ownerOf v b - 1) r) 1))
       (λ b l. when-none (not (eqb (ownerOf v b) 0)) (when (eqb (ownerOf v b - 1) r) 1)
@@ -201,29 +201,29 @@ module _ (v : View) (s : Sound v) where
       (λ q. absurd (ne (ap (codeOf v) (sym (eqb-true (ownerOf v b - 1) r q)) ∙ s .owned b (is-used b l t) .owner-segment)))))
 
   -- each row has the blocks that it holds beyond 1
-  exact : (r : ℕ) → Live v r → (t : Bool) → eqb (codeOf v r) 3 ≡ t
+  exact : (r : ℕ) → Live v r → (t : Bool) → eqb (codeOf v r) segmentCode ≡ t
       → 1 + Σ blockCount (λ b. when (not (eqb (ownerOf v b) 0)) (when (eqb (ownerOf v b - 1) r) 1)) ≡ cond t (units (lenOf v r)) 1
   unfolding units
-  exact r a true e = ap (λ (n : ℕ). 1 + n) (counted r a (eqb-true (codeOf v r) 3 e))
-  exact r a false e = ap (λ (n : ℕ). 1 + n) (none-owned r (eqb-false (codeOf v r) 3 e))
+  exact r a true e = ap (λ (n : ℕ). 1 + n) (counted r a (eqb-true (codeOf v r) segmentCode e))
+  exact r a false e = ap (λ (n : ℕ). 1 + n) (none-owned r (eqb-false (codeOf v r) segmentCode e))
 
   blocks : Blocks (rowsOf v) rowCount blockCount (λ b. not (eqb (ownerOf v b) 0)) (λ b. ownerOf v b - 1)
   blocks =
       record {
-        owned = λ b l t. let o = s .owned b (is-used b l t) in (o .owner-low, live-test v (ownerOf v b - 1) (code-live v (ownerOf v b - 1) 3 (o .owner-low) (o .owner-segment) (omega arith)));
-        exact = λ r l t. exact r (test-live v r l t) (eqb (codeOf v r) 3) refl;
+        owned = λ b l t. let o = s .owned b (is-used b l t) in (o .owner-low, live-test v (ownerOf v b - 1) (code-live v (ownerOf v b - 1) segmentCode (o .owner-low) (o .owner-segment) (omega arith)));
+        exact = λ r l t. exact r (test-live v r l t) (eqb (codeOf v r) segmentCode) refl;
       }
 
   -- A segment that is to be n bytes long within its quota finds the blocks that it lacks.
-  pub block-room : (r n : ℕ) → r < rowCount → codeOf v r ≡ 3 → units n ≤ quotaOf v r → blocksOf n ≤ blocksOf (lenOf v r) + freeBlocks v
+  pub block-room : (r n : ℕ) → r < rowCount → codeOf v r ≡ segmentCode → units n ≤ quotaOf v r → blocksOf n ≤ blocksOf (lenOf v r) + freeBlocks v
   unfolding units
   block-room r n l e h =
-      let a = code-live v r 3 l e (omega arith) in
-      let held : holds v r ≡ units (lenOf v r) = rw (eq-eqb (codeOf v r) 3 e) in
+      let a = code-live v r segmentCode l e (omega arith) in
+      let held : holds v r ≡ units (lenOf v r) = rw (eq-eqb (codeOf v r) segmentCode e) in
       omega (
         arith,
         blocks-held (rowsOf v) rowCount linkCount (s .root .0) (tree-sound v s) blockCount (λ b. not (eqb (ownerOf v b) 0)) (λ b. ownerOf v b - 1) blocks r l
-            (live-test v r a) (ne-eqb (codeOf v r) 4 (λ z. omega arith)),
+            (live-test v r a) (ne-eqb (codeOf v r) containerCode (λ z. omega arith)),
         used-and-free v,
         held,
       )

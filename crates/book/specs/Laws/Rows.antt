@@ -4,14 +4,13 @@ use native.Mathlib.Omega.{arith}
 use mathlib.Core.Bool.{Bool, true, false}
 use mathlib.Core.Path.{_≡_, refl}
 use lib.ListN.{length, drop, length-drop}
-use lib.Dec.{leb}
 use lib.Seq.{length-take-le}
 use Rattle.labels.specs.declared.Label.{Label}
 use Rattle.labels.specs.Core.{wordCount, wellFormed}
 use Rattle.labels.specs.Core.Formed.{well-formed-means}
 use Rattle.tables.specs.Layout.{View, rowCount}
 use Rattle.tables.specs.Layout.Laws.{within}
-use Rattle.book.specs.Book.{nextOf, codeOf, labelOf, clearanceOf}
+use Rattle.book.specs.Book.{nextOf, codeOf, labelOf, clearanceOf, ThreadOrGate, isThreadOrGate}
 use Rattle.book.specs.Sound.{Live, Sound}
 use Rattle.book.specs.Shape.{Shape}
 use Rattle.book.specs.Enact.{relabelled, fixedAt, requotaed}
@@ -22,9 +21,9 @@ formed-low n starred l h = omega (arith, well-formed-means n starred l .0 h .def
 
 -- So does the default of a row's label and clearance,
 pub label-low : (v : View) → Sound v → (r : ℕ) → Live v r → (labelOf v r) .default < 256
-label-low v s r a = formed-low (nextOf v) (leb (codeOf v r) 2) (labelOf v r) (s .labels r a)
+label-low v s r a = formed-low (nextOf v) (isThreadOrGate (codeOf v r)) (labelOf v r) (s .labels r a)
 
-pub clearance-low : (v : View) → Sound v → (r : ℕ) → Live v r → codeOf v r ≤ 2 → (clearanceOf v r) .default < 256
+pub clearance-low : (v : View) → Sound v → (r : ℕ) → Live v r → ThreadOrGate (codeOf v r) → (clearanceOf v r) .default < 256
 clearance-low v s r a h = formed-low (nextOf v) false (clearanceOf v r) (s .clearances r a h)
 
 -- and these have all their words.

@@ -13,6 +13,7 @@ use lib.Seq.{getD-set-same, getD-set-other}
 use lib.Dec.{eqb}
 use borrow.Author.Tests.{eq-eqb, ne-eqb, eqb-true, eqb-false}
 use Rattle.quotas.specs.Sum.{Σ, when, sum-mono, sum-more, sum-term, sum-pos, when-true, when-false, when-pos, when-le}
+use Rattle.rules.specs.Kernel.{segmentCode}
 use Rattle.tables.specs.Layout.{View, rowCount, blockCount}
 use Rattle.book.specs.Book.{codeOf, lenOf, ownerOf, indexOf, blocksOf}
 use Rattle.book.specs.Sound.{Used, Owned}
@@ -59,7 +60,7 @@ module _ (v : View) where
   needed-here : (b : ℕ) → Owned v b → indexOf v b < needsOf v (ownerOf v b - 1)
   needed-here b w =
       let r = ownerOf v b - 1 in
-      omega (arith, w .within, when-true (eqb (codeOf v r) 3) (blocksOf (lenOf v r)) (eq-eqb (codeOf v r) 3 (w .owner-segment)))
+      omega (arith, w .within, when-true (eqb (codeOf v r) segmentCode) (blocksOf (lenOf v r)) (eq-eqb (codeOf v r) segmentCode (w .owner-segment)))
 
   -- The number of an owned block is below what is needed.
   pub number-low : (b : ℕ) → Owned v b → numberOf v b < neededBlocks v

@@ -8,17 +8,17 @@ use mathlib.Core.Logic.{⊎-elim}
 use mathlib.Core.Path.{_≡_, refl, sym, _∙_, ap, ap₂, subst}
 use mathlib.Core.List.{List, []}
 use lib.ListN.{length}
-use lib.Dec.{eqb, leb, ltb}
+use lib.Dec.{eqb, ltb}
 use borrow.Author.Tests.{eqb-true, eqb-false, eq-eqb, ne-eqb, not-true, ltb-true, ltb-false, le-leb}
 use Rattle.quotas.specs.Any.{no-both, any, any-found, any-of, both, both-of, both-parts, either}
 use Rattle.quotas.specs.Sum.{Σ, when, sum-cong, sum-swap, sum-only, sum-none, sum-term, sum-pos, when-true, when-false, when-cong, when-none, when-le, when-pos}
-use Rattle.rules.specs.Kernel.{isLive, isThread, isGate, isSegment, isContainer, hasClearance, Obj, nothing, charged, useOf, spareOf, units}
+use Rattle.rules.specs.Kernel.{threadCode, gateCode, segmentCode, containerCode, maxCode, isLive, isThread, isGate, isSegment, isContainer, hasClearance, Obj, nothing, charged, useOf, spareOf, units}
 use Rattle.rules.specs.Laws.Bools.{bool-cases, not-i, not-both, same-by}
 use Rattle.rules.specs.Laws.Kinds.{nothing-dead}
 use Rattle.rules.specs.Laws.Usage.{use-container, use-segment, use-cleared}
 use Rattle.tables.specs.Layout.{View, rowCount, linkCount}
 use Rattle.book.specs.declared.Found.the-variants.{At, Nothing}
-use Rattle.book.specs.Book.{nextOf, rootOf, idOf, codeOf, maskOf, fixedOf, quotaOf, lenOf, entryOf, labelOf, clearanceOf, descriptionOf, closureOf, markOf, fromOf, toOf, liveRow, liveLink, kindFrom, bytesOf, objectAt, hasId, rowOf, isLink, worldOf}
+use Rattle.book.specs.Book.{nextOf, rootOf, idOf, codeOf, maskOf, fixedOf, quotaOf, lenOf, entryOf, labelOf, clearanceOf, descriptionOf, closureOf, markOf, fromOf, toOf, liveRow, liveLink, kindFrom, bytesOf, objectAt, hasId, rowOf, isLink, worldOf, ThreadOrGate, isThreadOrGate}
 use Rattle.book.specs.Sound.{Live, On, linksTo, chargedTo}
 use Rattle.book.specs.Placed.{Placed}
 use Rattle.book.specs.Laws.First.{first-only, first-low, first-hit, first-none, first-nothing, found-cases, on-at, on-nothing, collect-length}
@@ -114,67 +114,67 @@ module _ (v : View) (area : List ℕ) (r : ℕ) where
   object-description = refl
 
   -- Kinds by their codes.
-  pub object-thread : isThread ((objectAt v area r) .kind) ≡ eqb (codeOf v r) 1
+  pub object-thread : isThread ((objectAt v area r) .kind) ≡ eqb (codeOf v r) threadCode
   unfolding objectAt
   object-thread = thread-from (codeOf v r)
 
-  pub object-gate : isGate ((objectAt v area r) .kind) ≡ eqb (codeOf v r) 2
+  pub object-gate : isGate ((objectAt v area r) .kind) ≡ eqb (codeOf v r) gateCode
   unfolding objectAt
   object-gate = gate-from (codeOf v r)
 
-  pub object-segment : isSegment ((objectAt v area r) .kind) ≡ eqb (codeOf v r) 3
+  pub object-segment : isSegment ((objectAt v area r) .kind) ≡ eqb (codeOf v r) segmentCode
   unfolding objectAt
   object-segment = segment-from (codeOf v r)
 
-  pub object-container : isContainer ((objectAt v area r) .kind) ≡ eqb (codeOf v r) 4
+  pub object-container : isContainer ((objectAt v area r) .kind) ≡ eqb (codeOf v r) containerCode
   unfolding objectAt
   object-container = container-from (codeOf v r)
 
-  pub object-cleared : (codeOf v r ≡ 0 → ⊥) → hasClearance ((objectAt v area r) .kind) ≡ leb (codeOf v r) 2
+  pub object-cleared : (codeOf v r ≡ 0 → ⊥) → hasClearance ((objectAt v area r) .kind) ≡ isThreadOrGate (codeOf v r)
   unfolding objectAt
   object-cleared = cleared-from (codeOf v r)
 
-  pub object-live : codeOf v r ≤ 4 → isLive ((objectAt v area r) .kind) ≡ liveRow v r
+  pub object-live : codeOf v r ≤ maxCode → isLive ((objectAt v area r) .kind) ≡ liveRow v r
   unfolding objectAt
   object-live = live-from (codeOf v r)
 
   -- The fields that a kind has are those of the row.
-  pub object-clearance : (codeOf v r ≡ 0 → ⊥) → codeOf v r ≤ 2 → (objectAt v area r) .clearance ≡ clearanceOf v r
+  pub object-clearance : (codeOf v r ≡ 0 → ⊥) → ThreadOrGate (codeOf v r) → (objectAt v area r) .clearance ≡ clearanceOf v r
   unfolding objectAt
-  object-clearance ne h = rw (cleared-from (codeOf v r) ne ∙ le-leb (codeOf v r) 2 h)
+  object-clearance ne h = rw (cleared-from (codeOf v r) ne ∙ le-leb (codeOf v r) gateCode h)
 
-  pub object-fixed : codeOf v r ≡ 3 → (objectAt v area r) .fixed ≡ eqb (fixedOf v r) 1
+  pub object-fixed : codeOf v r ≡ segmentCode → (objectAt v area r) .fixed ≡ eqb (fixedOf v r) 1
   unfolding objectAt
-  object-fixed e = rw (segment-from (codeOf v r) ∙ eq-eqb (codeOf v r) 3 e)
+  object-fixed e = rw (segment-from (codeOf v r) ∙ eq-eqb (codeOf v r) segmentCode e)
 
-  pub object-bytes : codeOf v r ≡ 3 → (objectAt v area r) .bytes ≡ bytesOf v area r
+  pub object-bytes : codeOf v r ≡ segmentCode → (objectAt v area r) .bytes ≡ bytesOf v area r
   unfolding objectAt
-  object-bytes e = rw (segment-from (codeOf v r) ∙ eq-eqb (codeOf v r) 3 e)
+  object-bytes e = rw (segment-from (codeOf v r) ∙ eq-eqb (codeOf v r) segmentCode e)
 
-  pub object-mask : codeOf v r ≡ 4 → (objectAt v area r) .mask ≡ maskOf v r
+  pub object-mask : codeOf v r ≡ containerCode → (objectAt v area r) .mask ≡ maskOf v r
   unfolding objectAt
-  object-mask e = rw (container-from (codeOf v r) ∙ eq-eqb (codeOf v r) 4 e)
+  object-mask e = rw (container-from (codeOf v r) ∙ eq-eqb (codeOf v r) containerCode e)
 
-  pub object-entry : codeOf v r ≡ 2 → (objectAt v area r) .entry ≡ entryOf v r
+  pub object-entry : codeOf v r ≡ gateCode → (objectAt v area r) .entry ≡ entryOf v r
   unfolding objectAt
-  object-entry e = rw (gate-from (codeOf v r) ∙ eq-eqb (codeOf v r) 2 e)
+  object-entry e = rw (gate-from (codeOf v r) ∙ eq-eqb (codeOf v r) gateCode e)
 
-  pub object-closure : codeOf v r ≡ 2 → (objectAt v area r) .closure ≡ closureOf v r
+  pub object-closure : codeOf v r ≡ gateCode → (objectAt v area r) .closure ≡ closureOf v r
   unfolding objectAt
-  object-closure e = rw (gate-from (codeOf v r) ∙ eq-eqb (codeOf v r) 2 e)
+  object-closure e = rw (gate-from (codeOf v r) ∙ eq-eqb (codeOf v r) gateCode e)
 
   -- Those that it has not are blank.
-  pub object-unfixed : (codeOf v r ≡ 3 → ⊥) → (objectAt v area r) .fixed ≡ false
+  pub object-unfixed : (codeOf v r ≡ segmentCode → ⊥) → (objectAt v area r) .fixed ≡ false
   unfolding objectAt
-  object-unfixed ne = rw (segment-from (codeOf v r) ∙ ne-eqb (codeOf v r) 3 ne)
+  object-unfixed ne = rw (segment-from (codeOf v r) ∙ ne-eqb (codeOf v r) segmentCode ne)
 
-  pub object-no-bytes : (codeOf v r ≡ 3 → ⊥) → (objectAt v area r) .bytes ≡ []
+  pub object-no-bytes : (codeOf v r ≡ segmentCode → ⊥) → (objectAt v area r) .bytes ≡ []
   unfolding objectAt
-  object-no-bytes ne = rw (segment-from (codeOf v r) ∙ ne-eqb (codeOf v r) 3 ne)
+  object-no-bytes ne = rw (segment-from (codeOf v r) ∙ ne-eqb (codeOf v r) segmentCode ne)
 
-  pub object-no-mask : (codeOf v r ≡ 4 → ⊥) → (objectAt v area r) .mask ≡ 0
+  pub object-no-mask : (codeOf v r ≡ containerCode → ⊥) → (objectAt v area r) .mask ≡ 0
   unfolding objectAt
-  object-no-mask ne = rw (container-from (codeOf v r) ∙ ne-eqb (codeOf v r) 4 ne)
+  object-no-mask ne = rw (container-from (codeOf v r) ∙ ne-eqb (codeOf v r) containerCode ne)
 
   -- A segment has as many bytes as its row says.
   pub bytes-length : length (bytesOf v area r) ≡ lenOf v r
@@ -229,19 +229,19 @@ module _ (v : View) (area : List ℕ) (p : Placed v) where
   pub live-at : (r : ℕ) → Live v r → isLive (((worldOf v area) .obj (idOf v r)) .kind) ≡ true
   live-at r a = ap (λ (x : Obj). isLive (x .kind)) (obj-at r a) ∙ object-live v area r (p .code-most r a) ∙ live-test v r a
 
-  pub thread-at : (r : ℕ) → Live v r → isThread (((worldOf v area) .obj (idOf v r)) .kind) ≡ eqb (codeOf v r) 1
+  pub thread-at : (r : ℕ) → Live v r → isThread (((worldOf v area) .obj (idOf v r)) .kind) ≡ eqb (codeOf v r) threadCode
   thread-at r a = ap isThread (kind-at r a) ∙ thread-from (codeOf v r)
 
-  pub gate-at : (r : ℕ) → Live v r → isGate (((worldOf v area) .obj (idOf v r)) .kind) ≡ eqb (codeOf v r) 2
+  pub gate-at : (r : ℕ) → Live v r → isGate (((worldOf v area) .obj (idOf v r)) .kind) ≡ eqb (codeOf v r) gateCode
   gate-at r a = ap isGate (kind-at r a) ∙ gate-from (codeOf v r)
 
-  pub segment-at : (r : ℕ) → Live v r → isSegment (((worldOf v area) .obj (idOf v r)) .kind) ≡ eqb (codeOf v r) 3
+  pub segment-at : (r : ℕ) → Live v r → isSegment (((worldOf v area) .obj (idOf v r)) .kind) ≡ eqb (codeOf v r) segmentCode
   segment-at r a = ap isSegment (kind-at r a) ∙ segment-from (codeOf v r)
 
-  pub container-at : (r : ℕ) → Live v r → isContainer (((worldOf v area) .obj (idOf v r)) .kind) ≡ eqb (codeOf v r) 4
+  pub container-at : (r : ℕ) → Live v r → isContainer (((worldOf v area) .obj (idOf v r)) .kind) ≡ eqb (codeOf v r) containerCode
   container-at r a = ap isContainer (kind-at r a) ∙ container-from (codeOf v r)
 
-  pub cleared-at : (r : ℕ) → Live v r → hasClearance (((worldOf v area) .obj (idOf v r)) .kind) ≡ leb (codeOf v r) 2
+  pub cleared-at : (r : ℕ) → Live v r → hasClearance (((worldOf v area) .obj (idOf v r)) .kind) ≡ isThreadOrGate (codeOf v r)
   cleared-at r a = ap hasClearance (kind-at r a) ∙ cleared-from (codeOf v r) (a .used)
 
 -- ---- links
@@ -424,28 +424,28 @@ module _ (v : View) (area : List ℕ) (p : Placed v) (below : (r : ℕ) → Live
   -- ---- units
 
   -- A container uses one unit and what its links come to,
-  pub use-container-at : (r : ℕ) → Live v r → codeOf v r ≡ 4 → useOf (worldOf v area) (idOf v r) ≡ 1 + chargedTo v r
+  pub use-container-at : (r : ℕ) → Live v r → codeOf v r ≡ containerCode → useOf (worldOf v area) (idOf v r) ≡ 1 + chargedTo v r
   use-container-at r a e =
-      use-container (worldOf v area) (idOf v r) (container-at v area p r a ∙ eq-eqb (codeOf v r) 4 e) ∙ ap (λ (n : ℕ). 1 + n) (charged-at r a)
+      use-container (worldOf v area) (idOf v r) (container-at v area p r a ∙ eq-eqb (codeOf v r) containerCode e) ∙ ap (λ (n : ℕ). 1 + n) (charged-at r a)
 
-  pub spare-container-at : (r : ℕ) → Live v r → codeOf v r ≡ 4 → spareOf (worldOf v area) (idOf v r) ≡ quotaOf v r - (1 + chargedTo v r)
+  pub spare-container-at : (r : ℕ) → Live v r → codeOf v r ≡ containerCode → spareOf (worldOf v area) (idOf v r) ≡ quotaOf v r - (1 + chargedTo v r)
   unfolding spareOf
   spare-container-at r a e = ap₂ (λ (m n : ℕ). m - n) (quota-at v area p r a) (use-container-at r a e)
 
 module _ (v : View) (area : List ℕ) (p : Placed v) where
   -- a segment what its length asks,
-  pub use-segment-at : (r : ℕ) → Live v r → codeOf v r ≡ 3 → useOf (worldOf v area) (idOf v r) ≡ units (lenOf v r)
+  pub use-segment-at : (r : ℕ) → Live v r → codeOf v r ≡ segmentCode → useOf (worldOf v area) (idOf v r) ≡ units (lenOf v r)
   use-segment-at r a e =
-      use-segment (worldOf v area) (idOf v r) (segment-at v area p r a ∙ eq-eqb (codeOf v r) 3 e)
+      use-segment (worldOf v area) (idOf v r) (segment-at v area p r a ∙ eq-eqb (codeOf v r) segmentCode e)
       ∙ ap units (ap (λ (x : Obj). length (x .bytes)) (obj-at v area p r a) ∙ ap (λ (b : List ℕ). length b) (object-bytes v area r e) ∙ bytes-length v area r)
 
-  pub spare-segment-at : (r : ℕ) → Live v r → codeOf v r ≡ 3 → spareOf (worldOf v area) (idOf v r) ≡ quotaOf v r - units (lenOf v r)
+  pub spare-segment-at : (r : ℕ) → Live v r → codeOf v r ≡ segmentCode → spareOf (worldOf v area) (idOf v r) ≡ quotaOf v r - units (lenOf v r)
   unfolding spareOf
   spare-segment-at r a e = ap₂ (λ (m n : ℕ). m - n) (quota-at v area p r a) (use-segment-at r a e)
 
   -- a thread or gate one unit.
-  pub use-cleared-at : (r : ℕ) → Live v r → codeOf v r ≤ 2 → useOf (worldOf v area) (idOf v r) ≡ 1
-  use-cleared-at r a h = use-cleared (worldOf v area) (idOf v r) (cleared-at v area p r a ∙ le-leb (codeOf v r) 2 h)
+  pub use-cleared-at : (r : ℕ) → Live v r → ThreadOrGate (codeOf v r) → useOf (worldOf v area) (idOf v r) ≡ 1
+  use-cleared-at r a h = use-cleared (worldOf v area) (idOf v r) (cleared-at v area p r a ∙ le-leb (codeOf v r) gateCode h)
 
 -- ---- links to a row, counted
 

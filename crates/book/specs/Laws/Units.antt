@@ -7,7 +7,7 @@ use mathlib.Core.List.{List}
 use lib.Dec.{eqb}
 use borrow.Author.Tests.{eqb-true, eqb-false, eq-eqb, ne-eqb, not-true}
 use Rattle.quotas.specs.Sum.{Σ, when, sum-more, when-true, when-false, when-none}
-use Rattle.rules.specs.Kernel.{useOf, spareOf, units}
+use Rattle.rules.specs.Kernel.{segmentCode, containerCode, useOf, spareOf, units}
 use Rattle.rules.specs.Laws.Bools.{bool-cases}
 use Rattle.tables.specs.Layout.{View, rowCount, linkCount}
 use Rattle.book.specs.Book.{idOf, codeOf, quotaOf, lenOf, markOf, fromOf, toOf, liveLink, worldOf}
@@ -53,26 +53,26 @@ charged-all v c i x e f = e ∙ ap (λ (n : ℕ). Σ n (chargeOf v c)) f
 -- ---- what a row uses, by its kind
 
 module _ (v : View) (r : ℕ) where
-  pub use-container-row : codeOf v r ≡ 4 → useAt v r ≡ 1 + chargedTo v r
+  pub use-container-row : codeOf v r ≡ containerCode → useAt v r ≡ 1 + chargedTo v r
   unfolding useAt
-  use-container-row e = ap (λ (t : Bool). cond t (1 + chargedTo v r) (cond (eqb (codeOf v r) 3) (units (lenOf v r)) 1)) (eq-eqb (codeOf v r) 4 e)
+  use-container-row e = ap (λ (t : Bool). cond t (1 + chargedTo v r) (cond (eqb (codeOf v r) segmentCode) (units (lenOf v r)) 1)) (eq-eqb (codeOf v r) containerCode e)
 
-  pub use-segment-row : codeOf v r ≡ 3 → useAt v r ≡ units (lenOf v r)
+  pub use-segment-row : codeOf v r ≡ segmentCode → useAt v r ≡ units (lenOf v r)
   unfolding useAt
   use-segment-row e =
-      ap₂ (λ (s t : Bool). cond s (1 + chargedTo v r) (cond t (units (lenOf v r)) 1)) (ne-eqb (codeOf v r) 4 (λ z. omega arith)) (eq-eqb (codeOf v r) 3 e)
+      ap₂ (λ (s t : Bool). cond s (1 + chargedTo v r) (cond t (units (lenOf v r)) 1)) (ne-eqb (codeOf v r) containerCode (λ z. omega arith)) (eq-eqb (codeOf v r) segmentCode e)
 
-  pub use-other-row : (codeOf v r ≡ 4 → ⊥) → (codeOf v r ≡ 3 → ⊥) → useAt v r ≡ 1
+  pub use-other-row : (codeOf v r ≡ containerCode → ⊥) → (codeOf v r ≡ segmentCode → ⊥) → useAt v r ≡ 1
   unfolding useAt
   use-other-row ne nf =
-      ap₂ (λ (s t : Bool). cond s (1 + chargedTo v r) (cond t (units (lenOf v r)) 1)) (ne-eqb (codeOf v r) 4 ne) (ne-eqb (codeOf v r) 3 nf)
+      ap₂ (λ (s t : Bool). cond s (1 + chargedTo v r) (cond t (units (lenOf v r)) 1)) (ne-eqb (codeOf v r) containerCode ne) (ne-eqb (codeOf v r) segmentCode nf)
 
 module _ (v : View) (s : Sound v) (r : ℕ) (a : Live v r) where
   -- by which of the three the kind is
-  by-kind : {C : Type 0} → (codeOf v r ≡ 4 → C) → (codeOf v r ≡ 3 → C) → ((codeOf v r ≡ 4 → ⊥) → (codeOf v r ≡ 3 → ⊥) → C) → C
+  by-kind : {C : Type 0} → (codeOf v r ≡ containerCode → C) → (codeOf v r ≡ segmentCode → C) → ((codeOf v r ≡ containerCode → ⊥) → (codeOf v r ≡ segmentCode → ⊥) → C) → C
   by-kind f g h =
-      bool-cases (eqb (codeOf v r) 4) (λ t. f (eqb-true (codeOf v r) 4 t))
-      (λ t. bool-cases (eqb (codeOf v r) 3) (λ u. g (eqb-true (codeOf v r) 3 u)) (λ u. h (eqb-false (codeOf v r) 4 t) (eqb-false (codeOf v r) 3 u)))
+      bool-cases (eqb (codeOf v r) containerCode) (λ t. f (eqb-true (codeOf v r) containerCode t))
+      (λ t. bool-cases (eqb (codeOf v r) segmentCode) (λ u. g (eqb-true (codeOf v r) segmentCode u)) (λ u. h (eqb-false (codeOf v r) containerCode t) (eqb-false (codeOf v r) segmentCode u)))
 
   -- "use never exceeds quota"
   pub use-within : useAt v r ≤ quotaOf v r

@@ -8,16 +8,16 @@ use mathlib.Core.List.{List}
 use lib.ListN.{length, take, drop, length-drop}
 use lib.Seq.{length-take-le}
 use lib.Bits.{bitOr}
-use lib.Dec.{eqb, leb}
+use lib.Dec.{eqb}
 use borrow.Author.Tests.{eqb-true, eqb-false, eq-eqb, leb-true, leb-false}
 use Rattle.labels.specs.declared.Label.{Label}
 use Rattle.labels.specs.Core.{wellFormed, flows, wordCount}
-use Rattle.rules.specs.Kernel.{isLive, isContainer, hasClearance, Obj, useOf, textSize}
+use Rattle.rules.specs.Kernel.{gateCode, segmentCode, containerCode, isLive, isContainer, hasClearance, Obj, useOf, textSize}
 use Rattle.rules.specs.Sound as W
 use Rattle.rules.specs.Laws.Bools.{bool-cases, not-i, not-both}
 use Rattle.rules.specs.Laws.Kinds.{cleared-live}
 use Rattle.tables.specs.Layout.{View, rowCount}
-use Rattle.book.specs.Book.{nextOf, rootOf, idOf, codeOf, maskOf, fixedOf, labelOf, clearanceOf, fromOf, toOf, objectAt, worldOf}
+use Rattle.book.specs.Book.{nextOf, rootOf, idOf, codeOf, maskOf, fixedOf, labelOf, clearanceOf, fromOf, toOf, objectAt, worldOf, ThreadOrGate, isThreadOrGate}
 use Rattle.book.specs.Sound.{Live, Sound}
 use Rattle.book.specs.Placed.{Placed}
 use Rattle.book.specs.Shape.{Shape}
@@ -30,7 +30,7 @@ placed v s =
       code-most = λ r a. s .ranges r a .code-most;
       fixed-most = λ r a. s .ranges r a .fixed-most;
       ids-apart = s .ids-apart;
-      from-live = λ l a. let e = s .ends l a in code-live v (fromOf v l) 4 (e .from-low) (e .from-container) (omega arith);
+      from-live = λ l a. let e = s .ends l a in code-live v (fromOf v l) containerCode (e .from-low) (e .from-container) (omega arith);
       to-live = λ l a. let e = s .ends l a in record { low = e .to-low; used = e .to-live };
       links-apart = s .links-apart;
       owned = s .owned;
@@ -53,8 +53,8 @@ module _ (v : View) (area : List ℕ) (p : Placed v) where
 -- ---- the object at a row
 
 module _ (v : View) (area : List ℕ) (shape : Shape v) (s : Sound v) (r : ℕ) (a : Live v r) where
-  low-code : hasClearance ((objectAt v area r) .kind) ≡ true → codeOf v r ≤ 2
-  low-code h = leb-true (codeOf v r) 2 (sym (object-cleared v area r (a .used)) ∙ h)
+  low-code : hasClearance ((objectAt v area r) .kind) ≡ true → ThreadOrGate (codeOf v r)
+  low-code h = leb-true (codeOf v r) gateCode (sym (object-cleared v area r (a .used)) ∙ h)
 
   label-long : length ((labelOf v r) .words) ≡ wordCount
   label-long = part-length wordCount r (v .labelWords) (a .low) (shape .labelWords-long)
@@ -68,20 +68,20 @@ module _ (v : View) (area : List ℕ) (shape : Shape v) (s : Sound v) (r : ℕ) 
       record {
         quota-some = omega (arith, g .quota-some, object-quota v area r);
         quota-one = λ h. object-quota v area r ∙ g .quota-one (low-code h);
-        mask-most = bool-cases (eqb (codeOf v r) 4)
-            (λ t. let e = eqb-true (codeOf v r) 4 t in omega (arith, object-mask v area r e, g .mask-most e))
-            (λ t. omega (arith, object-no-mask v area r (eqb-false (codeOf v r) 4 t)));
-        length-most = bool-cases (eqb (codeOf v r) 3)
-            (λ t. let e = eqb-true (codeOf v r) 3 t in omega (arith, ap (λ (b : List ℕ). length b) (object-bytes v area r e), bytes-length v area r, g .length-most e))
-            (λ t. omega (arith, ap (λ (b : List ℕ). length b) (object-no-bytes v area r (eqb-false (codeOf v r) 3 t))));
-        fixed-segment = λ h. bool-cases (eqb (codeOf v r) 3)
+        mask-most = bool-cases (eqb (codeOf v r) containerCode)
+            (λ t. let e = eqb-true (codeOf v r) containerCode t in omega (arith, object-mask v area r e, g .mask-most e))
+            (λ t. omega (arith, object-no-mask v area r (eqb-false (codeOf v r) containerCode t)));
+        length-most = bool-cases (eqb (codeOf v r) segmentCode)
+            (λ t. let e = eqb-true (codeOf v r) segmentCode t in omega (arith, ap (λ (b : List ℕ). length b) (object-bytes v area r e), bytes-length v area r, g .length-most e))
+            (λ t. omega (arith, ap (λ (b : List ℕ). length b) (object-no-bytes v area r (eqb-false (codeOf v r) segmentCode t))));
+        fixed-segment = λ h. bool-cases (eqb (codeOf v r) segmentCode)
             (λ t. object-segment v area r ∙ t)
-            (λ t. not-both ((objectAt v area r) .fixed) h (object-unfixed v area r (eqb-false (codeOf v r) 3 t)));
+            (λ t. not-both ((objectAt v area r) .fixed) h (object-unfixed v area r (eqb-false (codeOf v r) segmentCode t)));
         label-words = ap (λ (x : Label). length (x .words)) (object-label v area r) ∙ label-long;
         clearance-words = λ h. ap (λ (x : Label). length (x .words)) (object-clearance v area r (a .used) (low-code h)) ∙ clearance-long;
         description-size = ap (λ (b : List ℕ). length b) (object-description v area r) ∙ part-length textSize r (v .description) (a .low) (shape .description-long);
         closure-size = λ h.
-            ap (λ (b : List ℕ). length b) (object-closure v area r (eqb-true (codeOf v r) 2 (sym (object-gate v area r) ∙ h)))
+            ap (λ (b : List ℕ). length b) (object-closure v area r (eqb-true (codeOf v r) gateCode (sym (object-gate v area r) ∙ h)))
             ∙ part-length textSize r (v .closure) (a .low) (shape .closure-long);
       }
 
@@ -101,13 +101,13 @@ module _ (v : View) (area : List ℕ) (shape : Shape v) (s : Sound v) (r : ℕ) 
       let p = placed v s in
       let g = s .ranges r a in
       let q = quota-at v area p r a in
-      bool-cases (leb (codeOf v r) 2)
-      (λ t. let h = leb-true (codeOf v r) 2 t in omega (arith, use-cleared-at v area p r a h, g .quota-some, q))
-      (λ t. let h = leb-false (codeOf v r) 2 t in
-      bool-cases (eqb (codeOf v r) 3)
-      (λ u. let e = eqb-true (codeOf v r) 3 u in omega (arith, use-segment-at v area p r a e, s .segment-fits r a e, q))
-      (λ u. let ne = eqb-false (codeOf v r) 3 u in
-      let e : codeOf v r ≡ 4 = omega (arith, g .code-most) in
+      bool-cases (isThreadOrGate (codeOf v r))
+      (λ t. let h = leb-true (codeOf v r) gateCode t in omega (arith, use-cleared-at v area p r a h, g .quota-some, q))
+      (λ t. let h = leb-false (codeOf v r) gateCode t in
+      bool-cases (eqb (codeOf v r) segmentCode)
+      (λ u. let e = eqb-true (codeOf v r) segmentCode u in omega (arith, use-segment-at v area p r a e, s .segment-fits r a e, q))
+      (λ u. let ne = eqb-false (codeOf v r) segmentCode u in
+      let e : codeOf v r ≡ containerCode = omega (arith, g .code-most) in
       omega (arith, use-container-at v area p (s .ids-below) r a e, s .container-fits r a e, q)))
 
 -- ---- the tree
@@ -116,14 +116,14 @@ module _ (v : View) (area : List ℕ) (s : Sound v) where
   root-obj : (worldOf v area) .obj (rootOf v) ≡ objectAt v area (s .root .0)
   root-obj =
       let (r, root) = s .root in
-      ap ((worldOf v area) .obj) (sym (root .has-id)) ∙ obj-at v area (placed v s) r (code-live v r 4 (root .low) (root .is-container) (omega arith))
+      ap ((worldOf v area) .obj) (sym (root .has-id)) ∙ obj-at v area (placed v s) r (code-live v r containerCode (root .low) (root .is-container) (omega arith))
 
   root-none : (d : ℕ) → (worldOf v area) .linked d (rootOf v) ≡ false
   root-none d = not-i ((worldOf v area) .linked d (rootOf v)) (λ h.
       let (r, root) = s .root in
       let p = placed v s in
       let (l, on, e, f) = linked-is v area d (rootOf v) h in
-      let t : toOf v l ≡ r = same-row v p (toOf v l) r (p .to-live l on) (code-live v r 4 (root .low) (root .is-container) (omega arith)) (f ∙ sym (root .has-id)) in
+      let t : toOf v l ≡ r = same-row v p (toOf v l) r (p .to-live l on) (code-live v r containerCode (root .low) (root .is-container) (omega arith)) (f ∙ sym (root .has-id)) in
       omega (arith, link-counted v l r on t, root .no-link))
 
   holding : (d o : ℕ) → (worldOf v area) .linked d o ≡ true → isContainer (((worldOf v area) .obj d) .kind) ≡ true
@@ -131,7 +131,7 @@ module _ (v : View) (area : List ℕ) (s : Sound v) where
       let p = placed v s in
       let (l, on, e, f) = linked-is v area d o h in
       subst (λ (i : ℕ). isContainer (((worldOf v area) .obj i) .kind) ≡ true) e
-      (container-at v area p (fromOf v l) (p .from-live l on) ∙ eq-eqb (codeOf v (fromOf v l)) 4 (s .ends l on .from-container))
+      (container-at v area p (fromOf v l) (p .from-live l on) ∙ eq-eqb (codeOf v (fromOf v l)) containerCode (s .ends l on .from-container))
 
   being-held : (d o : ℕ) → (worldOf v area) .linked d o ≡ true → isLive (((worldOf v area) .obj o) .kind) ≡ true
   being-held d o h =
@@ -144,7 +144,7 @@ module _ (v : View) (area : List ℕ) (s : Sound v) where
       let (r, root) = s .root in
       let e = ap ((worldOf v area) .obj) (world-root v area) ∙ root-obj in
       record {
-        root-container = ap (λ (x : Obj). isContainer (x .kind)) e ∙ object-container v area r ∙ eq-eqb (codeOf v r) 4 (root .is-container);
+        root-container = ap (λ (x : Obj). isContainer (x .kind)) e ∙ object-container v area r ∙ eq-eqb (codeOf v r) containerCode (root .is-container);
         root-quota = ap (λ (x : Obj). x .quota) e ∙ object-quota v area r ∙ root .quota-all;
         root-top = λ d. ap ((worldOf v area) .linked d) (world-root v area) ∙ root-none d;
         holder = holding;
@@ -167,7 +167,7 @@ module _ (v : View) (area : List ℕ) (s : Sound v) where
       let r = toOf v l in
       let live = p .to-live l x in
       let same : toOf v m ≡ r = same-row v p (toOf v m) r (p .to-live m y) live (f ∙ sym b) in
-      let free : (codeOf v r ≡ 3) × (fixedOf v r ≡ 1) → ⊥ = λ q.
+      let free : (codeOf v r ≡ segmentCode) × (fixedOf v r ≡ 1) → ⊥ = λ q.
       not-both (((worldOf v area) .obj o) .fixed)
       (ap (λ (i : ℕ). ((worldOf v area) .obj i) .fixed) (sym b) ∙ ap (λ (z : Obj). z .fixed) (obj-at v area p r live)
       ∙ object-fixed v area r (q .0) ∙ eq-eqb (fixedOf v r) 1 (q .1)) u in
@@ -180,7 +180,7 @@ module _ (v : View) (area : List ℕ) (s : Sound v) where
       let (l, on, e, f) = linked-is v area d o h in
       let to = p .to-live l on in
       let from = p .from-live l on in
-      let c : codeOf v (toOf v l) ≡ 4 = eqb-true (codeOf v (toOf v l)) 4 (sym (container-at v area p (toOf v l) to) ∙ ap (λ (i : ℕ). isContainer (((worldOf v area) .obj i) .kind)) f ∙ k) in
+      let c : codeOf v (toOf v l) ≡ containerCode = eqb-true (codeOf v (toOf v l)) containerCode (sym (container-at v area p (toOf v l) to) ∙ ap (λ (i : ℕ). isContainer (((worldOf v area) .obj i) .kind)) f ∙ k) in
       let mo : ((worldOf v area) .obj o) .mask ≡ maskOf v (toOf v l) =
       ap (λ (i : ℕ). ((worldOf v area) .obj i) .mask) (sym f) ∙ ap (λ (z : Obj). z .mask) (obj-at v area p (toOf v l) to) ∙ object-mask v area (toOf v l) c in
       let md : ((worldOf v area) .obj d) .mask ≡ maskOf v (fromOf v l) =

@@ -10,7 +10,7 @@ use lib.Seq.{sets, length-sets, sets-eq, set-getD, getD-take, getD-drop, length-
 use lib.Dec.{leb, ltb}
 use borrow.Author.Tests.{leb-true, leb-false, ltb-true, ltb-false, le-leb, lt-ltb}
 use Rattle.quotas.specs.Any.{no-both}
-use Rattle.rules.specs.Kernel.{blockSize, rewrite, alter, overwrite, apply}
+use Rattle.rules.specs.Kernel.{segmentCode, blockSize, rewrite, alter, overwrite, apply}
 use Rattle.rules.specs.Laws.Bools.{bool-cases, and-l, and-r, and-i, not-i}
 use Rattle.rules.specs.Laws.Bytes.{overwrite-at, overwrite-length}
 use Rattle.tables.specs.Layout.{View, blockCount, onTab, putT}
@@ -61,7 +61,7 @@ pub part-low : (v : View) (r k f n : ℕ) → f + n ≤ blockSize → blockSize 
 part-low v r k f n h = omega (arith, block-low v r k)
 
 -- The same length again is the same book.
-pub lengthened-same : (v : View) → Shape v → Placed v → (r : ℕ) → Live v r → codeOf v r ≡ 3 → lengthened r (lenOf v r) v ≡ v
+pub lengthened-same : (v : View) → Shape v → Placed v → (r : ℕ) → Live v r → codeOf v r ≡ segmentCode → lengthened r (lenOf v r) v ≡ v
 unfolding lengthened blocksAdded
 lengthened-same v shape p r a c =
     ap (λ (m : ℕ). putT lenT r (lenOf v r) (blocksAdded r (blocksOf (lenOf v r)) m (blocksDropped r (blocksOf (lenOf v r)) v)))
@@ -69,7 +69,7 @@ lengthened-same v shape p r a c =
     ∙ ap (putT lenT r (lenOf v r)) (dropped-same r (blocksOf (lenOf v r)) (blocksOf (lenOf v r)) v (held v r p a c) (omega arith) (shape .owner-long))
     ∙ ap (λ (l : List ℕ). onTab lenT (λ x. l) v) (set-getD (v .len) r 0)
 
-module _ (v : View) (p : Placed v) (r : ℕ) (a : Live v r) (c : codeOf v r ≡ 3) (k f : ℕ) where
+module _ (v : View) (p : Placed v) (r : ℕ) (a : Live v r) (c : codeOf v r ≡ segmentCode) (k f : ℕ) where
   -- Byte 64 k + f + i of the segment lies i bytes on.
   pub part-place : (n : ℕ) → f + n ≤ blockSize → (i : ℕ) → i < n → placeOf v r (blockSize * k + f + i) ≡ blockSize * blockAt v r k + f + i
   unfolding placeOf

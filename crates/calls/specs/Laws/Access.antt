@@ -7,7 +7,7 @@ use mathlib.Core.List.{List, []}
 use lib.ListN.{length}
 use Rattle.labels.specs.declared.Label.{Label}
 use Rattle.labels.specs.Core.{mayRead, mayWrite}
-use Rattle.rules.specs.Kernel.{Obj, Verdict, must, entry, isSegment, allHold, access}
+use Rattle.rules.specs.Kernel.{segmentCode, Obj, Verdict, must, entry, isSegment, allHold, access}
 use Rattle.tables.specs.Layout.{view, rowCount}
 use Rattle.book.specs.declared.Found.the-variants.{At}
 use Rattle.book.specs.Book.{codeOf, quotaOf, lenOf, labelOf, bytesOf, rowOf, worldOf}
@@ -74,7 +74,7 @@ module _ (b : List ℕ) (t d s : ℕ) (writes : Bool) where
         from-six area c by rest = tested b area c d s writes rest ∙ must-passed _ 5 _ (opened-by b area c t d s by k r l e x y ex ey ∙ f)
 
         -- no segment: 6
-        pub kind-closed : (n ≡ 3 → ⊥) → Closed b t d s writes 6
+        pub kind-closed : (n ≡ segmentCode → ⊥) → Closed b t d s writes 6
         kind-closed g =
             record {
               later = omega arith;
@@ -82,7 +82,7 @@ module _ (b : List ℕ) (t d s : ℕ) (writes : Bool) where
             }
 
         -- z is the segment's label
-        module _ (g : n ≡ 3) (z : Label) (ez : z ≡ labelOf (view b) r) where
+        module _ (g : n ≡ segmentCode) (z : Label) (ez : z ≡ labelOf (view b) r) where
           from-seven : (area : List ℕ) (c : ℕ) → Caller b area c t → (rest : Verdict)
               → accessOn b area c d s writes rest
               ≡ must (allHold (asked writes ((worldOf (view b) area .obj c) .label) ((worldOf (view b) area .obj s) .label))) 7 rest
@@ -118,8 +118,8 @@ module _ (b area : List ℕ) (s r : ℕ) (row : rowOf (view b) s ≡ At r) where
   pub segment-quota : (worldOf (view b) area .obj s) .quota ≡ quotaOf (view b) r
   segment-quota = ap (λ (x : Obj). x .quota) (obj-found (view b) area s r row) ∙ object-quota (view b) area r
 
-  pub segment-bytes : codeOf (view b) r ≡ 3 → (worldOf (view b) area .obj s) .bytes ≡ bytesOf (view b) area r
+  pub segment-bytes : codeOf (view b) r ≡ segmentCode → (worldOf (view b) area .obj s) .bytes ≡ bytesOf (view b) area r
   segment-bytes e = ap (λ (x : Obj). x .bytes) (obj-found (view b) area s r row) ∙ object-bytes (view b) area r e
 
-  pub segment-length : codeOf (view b) r ≡ 3 → length ((worldOf (view b) area .obj s) .bytes) ≡ lenOf (view b) r
+  pub segment-length : codeOf (view b) r ≡ segmentCode → length ((worldOf (view b) area .obj s) .bytes) ≡ lenOf (view b) r
   segment-length e = ap length (segment-bytes e) ∙ bytes-length (view b) area r

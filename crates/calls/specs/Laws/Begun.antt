@@ -7,7 +7,7 @@ use mathlib.Core.Path.{_≡_, refl, sym, ap, subst, _∙_}
 use mathlib.Core.List.{List}
 use lib.Dec.{leb}
 use Rattle.labels.specs.declared.Label.{Label}
-use Rattle.rules.specs.Kernel.{Obj, World, Verdict, refuse, Call, judge, isThread, goodArguments, lastNumber}
+use Rattle.rules.specs.Kernel.{threadCode, Obj, World, Verdict, refuse, Call, judge, isThread, goodArguments, lastNumber}
 use Rattle.rules.specs.Sound as rules
 use Rattle.tables.specs.Layout.{View, view, rowCount}
 use Rattle.book.specs.declared.Found.the-variants.{At, Nothing}
@@ -50,8 +50,8 @@ module _ (b area : List ℕ) (c t : ℕ) (by : Caller b area c t) where
   pub caller-object : worldOf (view b) area .obj c ≡ objectAt (view b) area t
   caller-object = thread-found (view b) area c t (by .row) .1
 
-  caller-code : codeOf (view b) t ≡ 1
-  caller-code = kind-is 1 (view b) c t (by .row) .1
+  caller-code : codeOf (view b) t ≡ threadCode
+  caller-code = kind-is threadCode (view b) c t (by .row) .1
 
   -- its label and clearance are those of its row
   pub caller-label : (worldOf (view b) area .obj c) .label ≡ labelOf (view b) t
@@ -63,7 +63,7 @@ module _ (b area : List ℕ) (c t : ℕ) (by : Caller b area c t) where
       ∙ object-clearance (view b) area t (λ z. omega (arith, caller-code)) (omega (arith, caller-code))
 
   pub caller-low : t < rowCount
-  caller-low = row-low (view b) c t (kind-is 1 (view b) c t (by .row) .0)
+  caller-low = row-low (view b) c t (kind-is threadCode (view b) c t (by .row) .0)
 
   module _ (x : Call) where
     pub caller-four : goodArguments (nextOf (view b)) x ≡ false → verdictOn b area c x ≡ refuse 4

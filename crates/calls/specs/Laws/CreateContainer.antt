@@ -1,5 +1,5 @@
 -- Call 4: the verdict at each way out, and what the making leaves.
-use Prim.Native.Nat.{ℕ, _<_, _≤_}
+use Prim.Native.Nat.{ℕ, _-_, _<_, _≤_}
 use native.Mathlib.Omega.{arith}
 use mathlib.Core.Bool.{Bool, true, false, _&&_}
 use mathlib.Core.Path.{_≡_, refl, sym, ap, ap₂, subst, _∙_}
@@ -13,7 +13,7 @@ use Rattle.labels.specs.Core.{labelSize}
 use Rattle.labels.specs.Core as core
 use Rattle.labels.specs.Core.Bytes.{labelOf-length}
 use Rattle.labels.specs.Core.Formed.{and-l, and-r}
-use Rattle.rules.specs.Kernel.{kindCode, allHold, flow, judge, goodArguments, goodLabel, goodText, maxMask, maxQuota, textSize, orDefault, containerDefault, containerOf, createContainer}
+use Rattle.rules.specs.Kernel.{containerCode, maskWidth, kindCode, allHold, flow, judge, goodArguments, goodLabel, goodText, maxMask, maxQuota, textSize, orDefault, containerDefault, containerOf, createContainer}
 use Rattle.tables.specs.Layout.{view}
 use Rattle.book.specs.declared.Found.the-variants.{At}
 use Rattle.book.specs.declared.make.NewRow.{NewRow}
@@ -44,7 +44,7 @@ module _ (b area l s : List ℕ) (c t d m q : ℕ) (by : Caller b area c t) wher
   -- good ones: what is shared decides
   pub container-judged : (n : ℕ) → n ≡ nextOf (view b) → (goodLabel n false l && (goodText s && (leb m maxMask && leb q maxQuota))) ≡ true
       → (allowed : Bool) → allowed ≡ allHold (plainConditions (labelOf (view b) t) (clearanceOf (view b) t) (core.labelOf l))
-      → (units : ℕ) → units ≡ orDefault q containerDefault → (r : Judged) → Admits b t d 3 units allowed r → ContainerJudged b area c d l s m q r
+      → (units : ℕ) → units ≡ orDefault q containerDefault → (r : Judged) → Admits b t d (containerCode - 1) units allowed r → ContainerJudged b area c d l s m q r
   unfolding goodArguments judge containerOf kindCode
   container-judged n g good allowed e units f r h =
       decided b area c t by (createContainer d l s m q) d (newContainer (worldOf (view b) area) d l s m q)
@@ -59,12 +59,12 @@ module _ (b area l s : List ℕ) (c t d m q : ℕ) (by : Caller b area c t) wher
 
 -- masks joined are a mask
 pub masks-joined : (m n : ℕ) → m ≤ maxMask → n ≤ maxMask → bitOr m n < 256
-masks-joined m n e f = let h = or-lt 4 m n (omega arith) (omega arith) in omega arith
+masks-joined m n e f = let h = or-lt maskWidth m n (omega arith) (omega arith) in omega arith
 
 -- the container's own mask
 pub outer-most : (b area : List ℕ) (d i n : ℕ) → Ready b area → containerRow (view b) d ≡ At i → n ≡ maskOf (view b) i → n ≤ maxMask
 outer-most b area d i n ready e f =
-    let (a, j, k) = kind-row 4 (view b) d i e in
+    let (a, j, k) = kind-row containerCode (view b) d i e in
     let h = book-sound b area (ready .areas) .ranges i a .mask-most k in
     omega arith
 

@@ -1,5 +1,5 @@
 -- Call 6: the verdict at each way out, and what the making leaves.
-use Prim.Native.Nat.{ℕ}
+use Prim.Native.Nat.{ℕ, _-_}
 use native.Mathlib.Omega.{arith}
 use mathlib.Core.Bool.{Bool, true, false, _&&_}
 use mathlib.Core.Path.{_≡_, refl, sym, ap, ap₂, subst, _∙_}
@@ -10,7 +10,7 @@ use Rattle.labels.specs.Core.{labelSize}
 use Rattle.labels.specs.Core as core
 use Rattle.labels.specs.Core.Bytes.{labelOf-length}
 use Rattle.labels.specs.Core.Formed.{and-l, and-r}
-use Rattle.rules.specs.Kernel.{kindCode, allHold, flow, judge, goodArguments, goodLabel, goodText, gateOf, createGate}
+use Rattle.rules.specs.Kernel.{gateCode, kindCode, allHold, flow, judge, goodArguments, goodLabel, goodText, gateOf, createGate}
 use Rattle.tables.specs.Layout.{view}
 use Rattle.book.specs.declared.make.NewRow.{NewRow}
 use Rattle.book.specs.Book.{nextOf, labelOf, clearanceOf, worldOf}
@@ -36,7 +36,7 @@ module _ (b area l k x s : List ℕ) (c t d i : ℕ) (by : Caller b area c t) wh
   -- good ones: what is shared decides
   pub gate-judged : (n : ℕ) → n ≡ nextOf (view b) → (goodLabel n true l && (goodLabel n false k && (goodText x && goodText s))) ≡ true
       → (allowed : Bool) → allowed ≡ allHold (clearedConditions (labelOf (view b) t) (clearanceOf (view b) t) (core.labelOf l) (core.labelOf k))
-      → (r : Judged) → Admits b t d 1 1 allowed r → GateJudged b area c d l k i x s r
+      → (r : Judged) → Admits b t d (gateCode - 1) 1 allowed r → GateJudged b area c d l k i x s r
   unfolding goodArguments judge gateOf kindCode
   gate-judged n g good allowed e r h =
       decided b area c t by (createGate d l k i x s) d (newGate l k i x s)

@@ -1,5 +1,5 @@
 -- Call 5: the verdict at each way out, and what the making leaves.
-use Prim.Native.Nat.{ℕ, _<_}
+use Prim.Native.Nat.{ℕ, _-_, _<_}
 use native.Mathlib.Omega.{arith}
 use mathlib.Core.Bool.{Bool, true, false, _&&_}
 use mathlib.Core.Path.{_≡_, refl, sym, ap, ap₂, subst, _∙_}
@@ -12,7 +12,7 @@ use Rattle.labels.specs.Core.{labelSize}
 use Rattle.labels.specs.Core as core
 use Rattle.labels.specs.Core.Bytes.{labelOf-length}
 use Rattle.labels.specs.Core.Formed.{and-l, and-r}
-use Rattle.rules.specs.Kernel.{kindCode, allHold, flow, judge, goodArguments, goodLabel, goodText, maxQuota, textSize, orDefault, segmentDefault, segmentOf, createSegment}
+use Rattle.rules.specs.Kernel.{segmentCode, kindCode, allHold, flow, judge, goodArguments, goodLabel, goodText, maxQuota, textSize, orDefault, segmentDefault, segmentOf, createSegment}
 use Rattle.tables.specs.Layout.{view}
 use Rattle.book.specs.declared.make.NewRow.{NewRow}
 use Rattle.book.specs.Book.{nextOf, labelOf, clearanceOf, worldOf}
@@ -37,7 +37,7 @@ module _ (b area l s : List ℕ) (c t d q : ℕ) (by : Caller b area c t) where
   -- good ones: what is shared decides
   pub segment-judged : (n : ℕ) → n ≡ nextOf (view b) → (goodLabel n false l && (goodText s && leb q maxQuota)) ≡ true
       → (allowed : Bool) → allowed ≡ allHold (plainConditions (labelOf (view b) t) (clearanceOf (view b) t) (core.labelOf l))
-      → (units : ℕ) → units ≡ orDefault q segmentDefault → (r : Judged) → Admits b t d 2 units allowed r → SegmentJudged b area c d l s q r
+      → (units : ℕ) → units ≡ orDefault q segmentDefault → (r : Judged) → Admits b t d (segmentCode - 1) units allowed r → SegmentJudged b area c d l s q r
   unfolding goodArguments judge segmentOf kindCode
   segment-judged n g good allowed e units f r h =
       decided b area c t by (createSegment d l s q) d (newSegment l s q) (flow (core.labelOf l) ((worldOf (view b) area .obj c) .clearance) ∷ [])

@@ -1,5 +1,5 @@
 -- Call 7: the verdict at each way out, and what the making leaves.
-use Prim.Native.Nat.{ℕ}
+use Prim.Native.Nat.{ℕ, _-_}
 use native.Mathlib.Omega.{arith}
 use mathlib.Core.Bool.{Bool, true, false, _&&_}
 use mathlib.Core.Path.{_≡_, refl, sym, ap, ap₂, subst, _∙_}
@@ -10,7 +10,7 @@ use Rattle.labels.specs.Core.{labelSize}
 use Rattle.labels.specs.Core as core
 use Rattle.labels.specs.Core.Bytes.{labelOf-length}
 use Rattle.labels.specs.Core.Formed.{and-l, and-r}
-use Rattle.rules.specs.Kernel.{kindCode, allHold, flow, judge, goodArguments, goodLabel, goodText, textSize, threadOf, createThread}
+use Rattle.rules.specs.Kernel.{threadCode, kindCode, allHold, flow, judge, goodArguments, goodLabel, goodText, textSize, threadOf, createThread}
 use Rattle.tables.specs.Layout.{view}
 use Rattle.book.specs.declared.make.NewRow.{NewRow}
 use Rattle.book.specs.Book.{nextOf, labelOf, clearanceOf, worldOf}
@@ -35,7 +35,7 @@ module _ (b area l k s : List ℕ) (c t d : ℕ) (by : Caller b area c t) where
   -- good ones: what is shared decides
   pub thread-judged : (n : ℕ) → n ≡ nextOf (view b) → (goodLabel n true l && (goodLabel n false k && goodText s)) ≡ true
       → (allowed : Bool) → allowed ≡ allHold (clearedConditions (labelOf (view b) t) (clearanceOf (view b) t) (core.labelOf l) (core.labelOf k))
-      → (r : Judged) → Admits b t d 0 1 allowed r → ThreadJudged b area c d l k s r
+      → (r : Judged) → Admits b t d (threadCode - 1) 1 allowed r → ThreadJudged b area c d l k s r
   unfolding goodArguments judge threadOf kindCode
   thread-judged n g good allowed e r h =
       decided b area c t by (createThread d l k s) d (newThread l k s)

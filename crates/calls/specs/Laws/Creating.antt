@@ -10,7 +10,7 @@ use borrow.Author.Tests.{eq-eqb, ne-eqb, le-leb, lt-leb}
 use Rattle.labels.specs.declared.Label.{Label}
 use Rattle.labels.specs.Core.{labelSize, flows, mayRead, mayWrite}
 use Rattle.labels.specs.Core.Formed.{and-l, and-r}
-use Rattle.rules.specs.Kernel.{Obj, grant, must, make, opens, allHold, writing, flow, forbids, fits, spareOf, Condition, Call, judge, goodArguments, goodLabel, create, orDefault}
+use Rattle.rules.specs.Kernel.{containerCode, Obj, grant, must, make, opens, allHold, writing, flow, forbids, fits, spareOf, Condition, Call, judge, goodArguments, goodLabel, create, orDefault}
 use Rattle.tables.specs.Layout.{view}
 use Rattle.book.specs.declared.Found.the-variants.{At, Nothing}
 use Rattle.book.specs.Book.{nextOf, maskOf, labelOf, worldOf}
@@ -95,7 +95,7 @@ module _ (m k l : Label) where
 
 -- the mask of the container is its row's
 pub mask-at : (b area : List ℕ) (d i : ℕ) → containerRow (view b) d ≡ At i → (worldOf (view b) area .obj d) .mask ≡ maskOf (view b) i
-mask-at b area d i e = ap (λ (o : Obj). o .mask) (container-found (view b) area d i e .1) ∙ object-mask (view b) area i (kind-row 4 (view b) d i e .2)
+mask-at b area d i e = ap (λ (o : Obj). o .mask) (container-found (view b) area d i e .1) ∙ object-mask (view b) area i (kind-row containerCode (view b) d i e .2)
 
 module _ (b area : List ℕ) (c t d : ℕ) (x : Obj) (more : List Condition) (place quota : ℕ) (allowed : Bool) (by : Caller b area c t)
     (a : Asked (worldOf (view b) area .obj c) x more place quota allowed) where
@@ -135,7 +135,7 @@ module _ (b area : List ℕ) (c t d : ℕ) (x : Obj) (more : List Condition) (pl
     unfolding fits
     fitting =
         ap₂ leb (a .units)
-        (ap (spareOf (worldOf (view b) area)) (sym (kind-row 4 (view b) d k e .1)) ∙ spare-at (view b) (sound-by-caller b area c t by) k (kind-row 4 (view b) d k e .0) area)
+        (ap (spareOf (worldOf (view b) area)) (sym (kind-row containerCode (view b) d k e .1)) ∙ spare-at (view b) (sound-by-caller b area c t by) k (kind-row containerCode (view b) d k e .0) area)
 
     -- an unreadable container: 5
     pub shut-five : mayRead (labelOf (view b) t) (labelOf (view b) k) ≡ false → Decides b area c d x more (No 5)
@@ -203,4 +203,4 @@ module _ (b area : List ℕ) (c : ℕ) (call : Call) (d : ℕ) (x : Obj) (i j l 
   made-done b′ long o e f n g =
       subst (λ (v : ℕ). Done b area c call (Granted v) b′ area) (sym g)
       (done-granted b area c call ready b′ long (nextOf (view b)) [] (create d x) area (go .granted)
-      (e ∙ ap (λ (z : Obj). createdIn i z (view b)) f ∙ sym (create-enacts d i x (view b) area (kind-is 4 (view b) d i (go .container) .0))) refl)
+      (e ∙ ap (λ (z : Obj). createdIn i z (view b)) f ∙ sym (create-enacts d i x (view b) area (kind-is containerCode (view b) d i (go .container) .0))) refl)

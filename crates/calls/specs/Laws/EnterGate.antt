@@ -11,7 +11,7 @@ use Rattle.labels.specs.declared.Rule.the-variants.{FloorFlows, FlowsJoin}
 use Rattle.labels.specs.Core.{compareB, flows, mayRead}
 use Rattle.labels.specs.Core as label
 use Rattle.labels.specs.Core.Formed.{and-l, and-r}
-use Rattle.rules.specs.Kernel.{Obj, refuse, grant, must, judge, entry, isGate, allHold, flow, floorFlow, flowJoin, enterGate, alter, relabel, goodLabel, goodArguments, textSize}
+use Rattle.rules.specs.Kernel.{gateCode, Obj, refuse, grant, must, judge, entry, isGate, allHold, flow, floorFlow, flowJoin, enterGate, alter, relabel, goodLabel, goodArguments, textSize}
 use Rattle.tables.specs.Layout.{view, rowCount}
 use Rattle.book.specs.declared.find.Entry.the-variants as place
 use Rattle.book.specs.Book.{nextOf, codeOf, labelOf, clearanceOf, worldOf}
@@ -158,14 +158,14 @@ module _ (b area : List ℕ) (c t d g : ℕ) (lr cr lv : List ℕ) (n : ℕ) (by
       gate-shut f = judged ∙ must-failed _ 5 _ (opened ∙ f)
 
       module _ (f : mayRead (labelOf (view b) t) (labelOf (view b) k) ≡ true) where
-        is-gate : isGate ((worldOf (view b) area .obj g) .kind) ≡ eqb (codeOf (view b) r) 2
+        is-gate : isGate ((worldOf (view b) area .obj g) .kind) ≡ eqb (codeOf (view b) r) gateCode
         is-gate = ap (λ (x : Obj). isGate (x .kind)) (in-it .object-object) ∙ object-gate (view b) area r
 
         -- no gate: 6
-        pub gate-six : (codeOf (view b) r ≡ 2 → ⊥) → verdictOn b area c (enterGate d g lr cr lv n) ≡ refuse 6
-        gate-six ne = judged ∙ (must-passed _ 5 _ (opened ∙ f) ∙ must-failed _ 6 _ (is-gate ∙ ne-eqb (codeOf (view b) r) 2 ne))
+        pub gate-six : (codeOf (view b) r ≡ gateCode → ⊥) → verdictOn b area c (enterGate d g lr cr lv n) ≡ refuse 6
+        gate-six ne = judged ∙ (must-passed _ 5 _ (opened ∙ f) ∙ must-failed _ 6 _ (is-gate ∙ ne-eqb (codeOf (view b) r) gateCode ne))
 
-        module _ (code : codeOf (view b) r ≡ 2) where
+        module _ (code : codeOf (view b) r ≡ gateCode) where
           its-clearance : (worldOf (view b) area .obj g) .clearance ≡ clearanceOf (view b) r
           its-clearance = ap (λ (x : Obj). x .clearance) (in-it .object-object) ∙ object-clearance (view b) area r (λ z. omega (arith, code)) (omega (arith, code))
 
@@ -179,7 +179,7 @@ module _ (b area : List ℕ) (c t d g : ℕ) (lr cr lv : List ℕ) (n : ℕ) (by
           from-seven : verdictOn b area c (enterGate d g lr cr lv n)
               ≡ must (allHold (gateConditions ((worldOf (view b) area .obj c) .label) ((worldOf (view b) area .obj c) .clearance) ((worldOf (view b) area .obj g) .label) ((worldOf (view b) area .obj g) .clearance) (label.labelOf lr) (label.labelOf cr) (label.labelOf lv))) 7
               (grant ((worldOf (view b) area .obj g) .entry) ((worldOf (view b) area .obj g) .closure) (alter c (relabel (label.labelOf lr) (label.labelOf cr))))
-          from-seven = judged ∙ (must-passed _ 5 _ (opened ∙ f) ∙ must-passed _ 6 _ (is-gate ∙ eq-eqb (codeOf (view b) r) 2 code))
+          from-seven = judged ∙ (must-passed _ 5 _ (opened ∙ f) ∙ must-passed _ 6 _ (is-gate ∙ eq-eqb (codeOf (view b) r) gateCode code))
 
           -- a condition fails: 7
           pub gate-seven : allHold (gateConditions (labelOf (view b) t) (clearanceOf (view b) t) (labelOf (view b) r) (clearanceOf (view b) r) (label.labelOf lr) (label.labelOf cr) (label.labelOf lv)) ≡ false

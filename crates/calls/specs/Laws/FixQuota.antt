@@ -6,7 +6,7 @@ use mathlib.Core.List.{List, [], _∷_, _++_}
 use lib.ListN.{length}
 use Rattle.labels.specs.declared.Label.{Label}
 use Rattle.labels.specs.Core.{mayRead}
-use Rattle.rules.specs.Kernel.{refuse, grant, must, judge, entry, isSegment, allHold, writing, flow, fixQuota, alter, fix, goodArguments, lastNumber}
+use Rattle.rules.specs.Kernel.{segmentCode, refuse, grant, must, judge, entry, isSegment, allHold, writing, flow, fixQuota, alter, fix, goodArguments, lastNumber}
 use Rattle.tables.specs.Layout.{view}
 use Rattle.book.specs.Book.{nextOf, codeOf, labelOf, worldOf}
 use Rattle.book.specs.Enact.{movedOn, fixedAt, alteredView, alteredArea}
@@ -48,10 +48,10 @@ module _ (b area : List ℕ) (c t d o : ℕ) (by : Caller b area c t) where
       from-six = judged ∙ must-passed _ 5 _ (opened-by b area c t d o by k r l e x y ex ey ∙ f)
 
       -- no segment: 6
-      pub kind-six : (n ≡ 3 → ⊥) → verdictOn b area c (fixQuota d o) ≡ refuse 6
+      pub kind-six : (n ≡ segmentCode → ⊥) → verdictOn b area c (fixQuota d o) ≡ refuse 6
       kind-six g = from-six ∙ must-failed _ 6 _ (no-segment b area c t d o by k r l e n en g)
 
-      module _ (g : n ≡ 3) (z : Label) (ez : z ≡ labelOf (view b) r) where
+      module _ (g : n ≡ segmentCode) (z : Label) (ez : z ≡ labelOf (view b) r) where
         labels-are : allHold (writing ((worldOf (view b) area .obj c) .label) ((worldOf (view b) area .obj d) .label) ++ (flow ((worldOf (view b) area .obj c) .label) ((worldOf (view b) area .obj o) .label) ∷ []))
             ≡ allHold (writing x y ++ (flow x z ∷ []))
         labels-are =

@@ -8,7 +8,7 @@ use lib.Dec.{eqb, leb}
 use borrow.Author.Tests.{le-leb, lt-leb}
 use Rattle.labels.specs.declared.Label.{Label}
 use Rattle.labels.specs.Core.{mayRead}
-use Rattle.rules.specs.Kernel.{Obj, World, Verdict, refuse, grant, must, judge, entry, opens, fits, isSegment, allHold, writing, flow, linkSegment, link, goodArguments}
+use Rattle.rules.specs.Kernel.{segmentCode, Obj, World, Verdict, refuse, grant, must, judge, entry, opens, fits, isSegment, allHold, writing, flow, linkSegment, link, goodArguments}
 use Rattle.tables.specs.Layout.{view}
 use Rattle.book.specs.declared.Found.the-variants.{At, Nothing}
 use Rattle.book.specs.declared.find.Entry.the-variants as place
@@ -89,11 +89,11 @@ module _ (b area : List ℕ) (c t d1 o d : ℕ) (by : Caller b area c t) where
             (ap₂ _&&_ (opened-by b area c t d1 o by h r l e x y ex ey ∙ f) (open-by b area c t d by k g x z ex ez ∙ q))
 
         -- no segment: 6
-        pub kind-six : (n ≡ 3 → ⊥) → verdictOn b area c (linkSegment d1 o d) ≡ refuse 6
+        pub kind-six : (n ≡ segmentCode → ⊥) → verdictOn b area c (linkSegment d1 o d) ≡ refuse 6
         kind-six s = at-six ∙ must-failed _ 6 _ (no-segment b area c t d1 o by h r l e n en s)
 
         -- u is the caller's clearance and p the segment's label
-        module _ (s : n ≡ 3) (u p : Label) (eu : u ≡ clearanceOf (view b) t) (ep : p ≡ labelOf (view b) r) where
+        module _ (s : n ≡ segmentCode) (u p : Label) (eu : u ≡ clearanceOf (view b) t) (ep : p ≡ labelOf (view b) r) where
           at-seven : verdictOn b area c (linkSegment d1 o d)
               ≡ must (labelsHold (worldOf (view b) area) (worldOf (view b) area .obj c) o d) 7 (from-nine (worldOf (view b) area) o d)
           at-seven = at-six ∙ must-passed _ 6 _ (segment-here b area c t d1 o by h r l e n en s)

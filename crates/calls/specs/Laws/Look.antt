@@ -5,16 +5,16 @@ use mathlib.Core.Bool.{Bool, true, false, not, cond, _&&_, _||_}
 use mathlib.Core.Path.{_≡_, refl, sym, ap, ap₂, subst, _∙_}
 use mathlib.Core.List.{List, _∷_, _++_}
 use lib.ListN.{length, replicate}
-use lib.Dec.{eqb, leb}
+use lib.Dec.{eqb}
 use borrow.Author.Tests.{eq-eqb, ne-eqb, eqb-true, eqb-false}
 use Rattle.labels.specs.declared.Label.{Label}
 use Rattle.labels.specs.Core.{mayRead, wordsBytes, wordCount}
 use Rattle.labels.specs.Core.Formed.{formed-default-top}
-use Rattle.rules.specs.Kernel.{Obj, refuse, grant, must, judge, opens, entry, look, keep, kindCode, lookBytes, lookSize, goodArguments}
+use Rattle.rules.specs.Kernel.{threadCode, containerCode, maxCode, Obj, refuse, grant, must, judge, opens, entry, look, keep, kindCode, lookBytes, lookSize, goodArguments}
 use Rattle.tables.specs.Layout.{View, view, rowCount}
 use Rattle.book.specs.declared.Found.the-variants.{At, Nothing}
 use Rattle.book.specs.declared.find.Entry.the-variants as place
-use Rattle.book.specs.Book.{nextOf, codeOf, labelOf, objectAt, worldOf, onFound}
+use Rattle.book.specs.Book.{nextOf, codeOf, labelOf, objectAt, worldOf, onFound, isThreadOrGate}
 use Rattle.book.specs.Find.{containerRow, entryPlace}
 use Rattle.book.specs.Placed.{Placed}
 use Rattle.book.specs.Sound.{Live}
@@ -94,7 +94,7 @@ module _ (v : View) (area : List ℕ) (t : Obj) (d o : ℕ) where
       (λ k f. let q : place.In k k 0 ≡ place.In c r l = sym (place-container v d o k e f) ∙ h in
       let x : k ≡ c = cc in
       let y : k ≡ r = cc in
-      let live = row-is v d k (kind-is 4 v d k f .0) .0 in
+      let live = row-is v d k (kind-is containerCode v d k f .0) .0 in
       record {
         opened = own-asked e ∙ (opens-at v area t d k f ∙ ap (λ (i : ℕ). mayRead (t .label) (labelOf v i)) x);
         container-low = subst (λ (i : ℕ). i < rowCount) x (live .low);
@@ -122,14 +122,14 @@ under-cons true k a b = refl
 under-cons false k a b = refl
 
 -- what the rules put out of an object is what its row has
-pub look-bytes : (v : View) (area : List ℕ) (mine : Label) (r : ℕ) → codeOf v r ≤ 4 → lookBytes mine (objectAt v area r) ≡ lookAt v mine r
+pub look-bytes : (v : View) (area : List ℕ) (mine : Label) (r : ℕ) → codeOf v r ≤ maxCode → lookBytes mine (objectAt v area r) ≡ lookAt v mine r
 unfolding lookBytes
 look-bytes v area mine r small =
     ap₂ (λ (s : List ℕ) (z : List ℕ). s ++ z) (object-description v area r)
     ((λ i. (kindCode (object-kind v area r i) ∷ cond (object-thread v area r i && not (mayRead mine (object-label v area r i))) (replicate (7 + wordCount * 8) 0) (1 ∷ object-label v area r i .default ∷ (replicate 5 0 ++ wordsBytes (object-label v area r i .words)))))
-    ∙ (ap (λ (k : ℕ). k ∷ cond (eqb (codeOf v r) 1 && not (mayRead mine (labelOf v r))) (replicate (7 + wordCount * 8) 0) (1 ∷ labelOf v r .default ∷ (replicate 5 0 ++ wordsBytes (labelOf v r .words)))) (code-from (codeOf v r) small)
-    ∙ (under-cons (eqb (codeOf v r) 1 && not (mayRead mine (labelOf v r))) (codeOf v r) (replicate (7 + wordCount * 8) 0) (1 ∷ labelOf v r .default ∷ (replicate 5 0 ++ wordsBytes (labelOf v r .words)))
-    ∙ choose (eqb (codeOf v r) 1 && not (mayRead mine (labelOf v r))) (hiddenBytes (codeOf v r)) (shownBytes (codeOf v r) (labelOf v r)))))
+    ∙ (ap (λ (k : ℕ). k ∷ cond (eqb (codeOf v r) threadCode && not (mayRead mine (labelOf v r))) (replicate (7 + wordCount * 8) 0) (1 ∷ labelOf v r .default ∷ (replicate 5 0 ++ wordsBytes (labelOf v r .words)))) (code-from (codeOf v r) small)
+    ∙ (under-cons (eqb (codeOf v r) threadCode && not (mayRead mine (labelOf v r))) (codeOf v r) (replicate (7 + wordCount * 8) 0) (1 ∷ labelOf v r .default ∷ (replicate 5 0 ++ wordsBytes (labelOf v r .words)))
+    ∙ choose (eqb (codeOf v r) threadCode && not (mayRead mine (labelOf v r))) (hiddenBytes (codeOf v r)) (shownBytes (codeOf v r) (labelOf v r)))))
 
 -- ---- the verdict
 
@@ -175,7 +175,7 @@ module _ (b area : List ℕ) (c t d o n : ℕ) (by : Caller b area c t) where
             sized = sized;
             caller-low = caller-low b area c t by;
             object-low = seen .object-live .low;
-            label-fits = omega (arith, formed-default-top (nextOf (view b)) (leb (codeOf (view b) r) 2) (labelOf (view b) r .default) (labelOf (view b) r .words) (sound-by-caller b area c t by .labels r (seen .object-live)));
+            label-fits = omega (arith, formed-default-top (nextOf (view b)) (isThreadOrGate (codeOf (view b) r)) (labelOf (view b) r .default) (labelOf (view b) r .words) (sound-by-caller b area c t by .labels r (seen .object-live)));
           }
 
 -- the number moves on and nothing else is changed

@@ -10,7 +10,7 @@ use lib.IntN.{ℤ}
 use borrow.Author.Tests.{eq-eqb, ne-eqb, eqb-true, eqb-false, leb-true}
 use Rattle.labels.specs.declared.Label.{Label}
 use Rattle.labels.specs.Core.{mayRead}
-use Rattle.rules.specs.Kernel.{Obj, refuse, grant, must, entry, fits, isSegment, isContainer, allHold, writing, flow, moveQuota, alter, requota, rootQuota, lastNumber}
+use Rattle.rules.specs.Kernel.{segmentCode, containerCode, Obj, refuse, grant, must, entry, fits, isSegment, isContainer, allHold, writing, flow, moveQuota, alter, requota, rootQuota, lastNumber}
 use Rattle.rules.specs.Laws.Bools.{bool-cases}
 use Rattle.tables.specs.Layout.{View, view}
 use Rattle.book.specs.declared.find.Entry.the-variants as place
@@ -36,26 +36,26 @@ use Rattle.calls.specs.Laws.Prelude.{must-passed, must-failed, done-gran
 -- ---- the tests of code
 
 -- a segment or a container, by the code that is read
-pub movable-segment : (n : ℕ) → n ≡ 3 → true ≡ (eqb n 3 || eqb n 4)
-movable-segment n e = sym (ap (λ a. a || eqb n 4) (eq-eqb n 3 e))
+pub movable-segment : (n : ℕ) → n ≡ segmentCode → true ≡ (eqb n segmentCode || eqb n containerCode)
+movable-segment n e = sym (ap (λ a. a || eqb n containerCode) (eq-eqb n segmentCode e))
 
-pub movable-other : (n : ℕ) → (n ≡ 3 → ⊥) → eqb n 4 ≡ (eqb n 3 || eqb n 4)
-movable-other n ne = sym (ap (λ a. a || eqb n 4) (ne-eqb n 3 ne))
+pub movable-other : (n : ℕ) → (n ≡ segmentCode → ⊥) → eqb n containerCode ≡ (eqb n segmentCode || eqb n containerCode)
+movable-other n ne = sym (ap (λ a. a || eqb n containerCode) (ne-eqb n segmentCode ne))
 
 -- whether a quota is fixed
-pub fixed-other : (v : View) (r n : ℕ) → n ≡ codeOf v r → (n ≡ 3 → ⊥) → false ≡ isFixed v r
+pub fixed-other : (v : View) (r n : ℕ) → n ≡ codeOf v r → (n ≡ segmentCode → ⊥) → false ≡ isFixed v r
 unfolding isFixed
-fixed-other v r n e ne = sym (ap (λ a. cond a (eqb (fixedOf v r) 1) false) (ne-eqb (codeOf v r) 3 (λ q. ne (e ∙ q))))
+fixed-other v r n e ne = sym (ap (λ a. cond a (eqb (fixedOf v r) 1) false) (ne-eqb (codeOf v r) segmentCode (λ q. ne (e ∙ q))))
 
-pub fixed-segment : (v : View) (r n : ℕ) → n ≡ codeOf v r → n ≡ 3 → eqb (fixedOf v r) 1 ≡ isFixed v r
+pub fixed-segment : (v : View) (r n : ℕ) → n ≡ codeOf v r → n ≡ segmentCode → eqb (fixedOf v r) 1 ≡ isFixed v r
 unfolding isFixed
-fixed-segment v r n e q = sym (ap (λ a. cond a (eqb (fixedOf v r) 1) false) (eq-eqb (codeOf v r) 3 (sym e ∙ q)))
+fixed-segment v r n e q = sym (ap (λ a. cond a (eqb (fixedOf v r) 1) false) (eq-eqb (codeOf v r) segmentCode (sym e ∙ q)))
 
 pub fixed-object : (v : View) (area : List ℕ) (r : ℕ) → (objectAt v area r) .fixed ≡ isFixed v r
 fixed-object v area r =
-    bool-cases (eqb (codeOf v r) 3)
-    (λ t. let e = eqb-true (codeOf v r) 3 t in object-fixed v area r e ∙ fixed-segment v r (codeOf v r) refl e)
-    (λ t. let e = eqb-false (codeOf v r) 3 t in object-unfixed v area r e ∙ fixed-other v r (codeOf v r) refl e)
+    bool-cases (eqb (codeOf v r) segmentCode)
+    (λ t. let e = eqb-true (codeOf v r) segmentCode t in object-fixed v area r e ∙ fixed-segment v r (codeOf v r) refl e)
+    (λ t. let e = eqb-false (codeOf v r) segmentCode t in object-unfixed v area r e ∙ fixed-other v r (codeOf v r) refl e)
 
 -- what room there is, by ids and by rows
 room-is : (u : Amount) (b area : List ℕ) (d o k r : ℕ) → ((n : ℕ) → fits (worldOf (view b) area) d n ≡ leb n (spareAt (view b) k))
@@ -97,18 +97,18 @@ module _ (b area : List ℕ) (c t d o : ℕ) (by : Caller b area c t) (z : ℤ) 
       shut-five f = judged ∙ must-failed _ 5 _ (opened-by b area c t d o by k r l e x y ex ey ∙ f)
 
       module _ (f : mayRead x y ≡ true) (n : ℕ) (en : n ≡ codeOf (view b) r) where
-        kind-is : (isSegment ((worldOf (view b) area .obj o) .kind) || isContainer ((worldOf (view b) area .obj o) .kind)) ≡ (eqb n 3 || eqb n 4)
+        kind-is : (isSegment ((worldOf (view b) area .obj o) .kind) || isContainer ((worldOf (view b) area .obj o) .kind)) ≡ (eqb n segmentCode || eqb n containerCode)
         kind-is =
             ap₂ _||_
-            (is-segment b area c t d o by k r l e ∙ ap (λ m. eqb m 3) (sym en))
-            (is-container b area c t d o by k r l e ∙ ap (λ m. eqb m 4) (sym en))
+            (is-segment b area c t d o by k r l e ∙ ap (λ m. eqb m segmentCode) (sym en))
+            (is-container b area c t d o by k r l e ∙ ap (λ m. eqb m containerCode) (sym en))
 
         -- neither segment nor container: 6
-        pub kind-six : (eqb n 3 || eqb n 4) ≡ false → verdictOn b area c (moveQuota d o z) ≡ refuse 6
+        pub kind-six : (eqb n segmentCode || eqb n containerCode) ≡ false → verdictOn b area c (moveQuota d o z) ≡ refuse 6
         kind-six g = judged ∙ (must-passed _ 5 _ (opened-by b area c t d o by k r l e x y ex ey ∙ f) ∙ must-failed _ 6 _ (kind-is ∙ g))
 
         -- p and q are the caller's clearance and the object's label
-        module _ (g : (eqb n 3 || eqb n 4) ≡ true) (p q : Label) (ep : p ≡ clearanceOf (view b) t) (eq : q ≡ labelOf (view b) r) where
+        module _ (g : (eqb n segmentCode || eqb n containerCode) ≡ true) (p q : Label) (ep : p ≡ clearanceOf (view b) t) (eq : q ≡ labelOf (view b) r) where
           labels-are : allHold
               (writing ((worldOf (view b) area .obj c) .label) ((worldOf (view b) area .obj d) .label)
               ++ (flow ((worldOf (view b) area .obj c) .label) ((worldOf (view b) area .obj o) .label)

@@ -7,7 +7,7 @@ use mathlib.Core.List.{List, []}
 use lib.ListN.{length}
 use lib.Dec.{leb}
 use borrow.Author.Tests.{le-leb, lt-leb}
-use Rattle.rules.specs.Kernel.{refuse, grant, must, judge, resize, resized, alter, rewrite, units, goodArguments, maxLength, lastNumber}
+use Rattle.rules.specs.Kernel.{segmentCode, refuse, grant, must, judge, resize, resized, alter, rewrite, units, goodArguments, maxLength, lastNumber}
 use Rattle.tables.specs.Layout.{View, view, size, rowCount}
 use Rattle.book.specs.Book.{nextOf, codeOf, quotaOf, bytesOf, worldOf}
 use Rattle.book.specs.Enact.{areaSize, movedOn, lengthened, areaAfter, enactView, enactArea}
@@ -78,7 +78,7 @@ module _ (b area : List ℕ) (c d s n r j k : ℕ) (ready : Ready b area) (go : 
   low : r < rowCount
   low = open-low b s r (go .row)
 
-  pub can-resize : (length b ≡ size) × (length area ≡ areaSize) × (r < rowCount) × (codeOf (view b) r ≡ 3) × (n ≤ maxLength) × Sound (view b)
+  pub can-resize : (length b ≡ size) × (length area ≡ areaSize) × (r < rowCount) × (codeOf (view b) r ≡ segmentCode) × (n ≤ maxLength) × Sound (view b)
   can-resize = (book-long b area (ready .areas), area-long b area (ready .areas), low, go .code, go .most, book-sound b area (ready .areas))
 
   -- b₁ and area₁ are what the resize leaves

@@ -5,7 +5,7 @@ use native.Mathlib.Nat.{max-le, max-eq-left, le-max-right}
 use native.Mathlib.Omega.{arith}
 use lib.Arith.{bin-ind}
 use lib.Bits.{bitOr, or-step, or-self, or-lt}
-use Rattle.rules.specs.Kernel.{maxMask}
+use Rattle.rules.specs.Kernel.{maskWidth, maxMask}
 
 -- joined twice is joined once
 pub or-twice : (m p : ℕ) → bitOr (bitOr m p) p ≡ bitOr m p
@@ -24,4 +24,4 @@ or-twice = bin-ind (λ (n : ℕ). (p : ℕ) → bitOr (bitOr n p) p ≡ bitOr n 
 
 -- two masks joined are a mask
 pub or-mask : (m p : ℕ) → m ≤ maxMask → p ≤ maxMask → bitOr m p ≤ maxMask
-or-mask m p a b = let l = or-lt 4 m p (omega arith) (omega arith) in omega arith
+or-mask m p a b = let l = or-lt maskWidth m p (omega arith) (omega arith) in omega arith

@@ -11,7 +11,7 @@ use borrow.Author.Tests.{leb-true, eqb-true}
 use Rattle.labels.specs.declared.Label.{Label}
 use Rattle.labels.specs.Core.{mayRead, wordCount, wordsBytes}
 use Rattle.labels.specs.Core.Bytes.{wordsBytes-length}
-use Rattle.rules.specs.Kernel.{isLive, isThread, isGate, isContainer, Obj, World, Call, createCategory, setLabel, setClearance, createContainer, createSegment, createGate, createThread, unreference, linkSegment, fixQuota, moveQuota, read, write, resize, enterGate, look, Change, Verdict, refuse, grant, opens, entry, lookBytes, lookSize, judge, call, answerOf, outputOf, blockSize}
+use Rattle.rules.specs.Kernel.{isLive, isThread, isGate, isContainer, Obj, World, Call, createCategory, setLabel, setClearance, createContainer, createSegment, createGate, createThread, unreference, linkSegment, fixQuota, moveQuota, read, write, resize, enterGate, look, Change, Verdict, refuse, grant, opens, entry, lookBytes, textSize, lookSize, judge, call, answerOf, outputOf, blockSize}
 use Rattle.rules.specs.Sound.{InRange, Sound}
 use Rattle.rules.specs.Answers.{outputSize}
 use Rattle.rules.specs.Laws.Bools.{and-l, and-r, or-cases}
@@ -41,7 +41,7 @@ module _ (w : World) (s : Sound w) (c v : ℕ) (b : List ℕ) (h : Change) where
       let within = must-test v b h (leb (blockSize * k + f + n) (length ((w .obj o) .bytes))) 11 _ (access-outcome w t c v b h d o _ _ e) in
       taken-length (blockSize * k + f) n ((w .obj o) .bytes) (leb-true (blockSize * k + f + n) (length ((w .obj o) .bytes)) within)
 
-  enter-size : (d g : ℕ) (lr cr lv : List ℕ) (out : ℕ) → judge w t c (enterGate d g lr cr lv out) ≡ grant v b h → length ((w .obj g) .closure) ≡ 32
+  enter-size : (d g : ℕ) (lr cr lv : List ℕ) (out : ℕ) → judge w t c (enterGate d g lr cr lv out) ≡ grant v b h → length ((w .obj g) .closure) ≡ textSize
   unfolding judge
   enter-size d g lr cr lv out e =
       let k = must-test v b h (isGate ((w .obj g) .kind)) 6 _ (must-rest v b h (entry w t d g) 5 _ e) in

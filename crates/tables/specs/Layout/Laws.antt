@@ -13,7 +13,8 @@ use borrow.Author.Tests.{eq-eqb, ne-eqb}
 use Rattle.labels.specs.Le.{leAt, leSet}
 use Rattle.labels.specs.Le.Laws.{Below, leSet-low, leSet-high, leAt-agree, leAt-same, leAt-below}
 use Rattle.labels.specs.Core.{wordCount}
-use Rattle.tables.specs.Layout.{rowCount, linkCount, blockCount, textSize, tableCount, wOf, nOf, base, size, nums, tab, fromTabs, tabOf, view, putT, Slot}
+use Rattle.rules.specs.Kernel.{textSize}
+use Rattle.tables.specs.Layout.{rowCount, linkCount, blockCount, tableCount, wOf, nOf, base, size, nums, tab, fromTabs, tabOf, view, putT, Slot}
 
 -- c has b's bytes from lo up to hi
 abbrev pub Agree : List ℕ → List ℕ → ℕ → ℕ → Type 0

@@ -4,6 +4,7 @@ use native.Mathlib.Omega.{arith}
 use mathlib.Core.Path.{_≡_, refl, _∙_, ap}
 use lib.Dec.{eqb}
 use Rattle.quotas.specs.Sum.{Σ, when, sum-more}
+use Rattle.rules.specs.Kernel.{segmentCode}
 use Rattle.tables.specs.Layout.{view, rowCount}
 use Rattle.book.specs.Book.{codeOf, lenOf, blocksOf}
 use Rattle.book.specs.Test.{neededBlocks}
@@ -11,7 +12,7 @@ use Rattle.book.proofs.sound_blocks.count_needed.Statement.{statement}
 use Rattle.book.proofs.sound_blocks.count_needed.Tie as tie
 
 abbrev Inv-loop : tie.InvT-loop
-Inv-loop b sum₀ i₀ sum i = (i ≤ rowCount) × (sum ≡ Σ i (λ r. when (eqb (codeOf (view b) r) 3) (blocksOf (lenOf (view b) r)))) × (sum ≤ i * 1024)
+Inv-loop b sum₀ i₀ sum i = (i ≤ rowCount) × (sum ≡ Σ i (λ r. when (eqb (codeOf (view b) r) segmentCode) (blocksOf (lenOf (view b) r)))) × (sum ≤ i * 1024)
 
 abbrev μ-loop : tie.MeasureT-loop
 μ-loop b sum₀ i₀ sum i = rowCount - i
@@ -38,7 +39,7 @@ loop-again c =
     let v = view (s .args .b .now) in
     let at-needed = c .needed in
     let turn = c .before .before .loop in
-    (omega arith, omega (arith, sum-more (turn .i) (λ r. when (eqb (codeOf v r) 3) (blocksOf (lenOf v r))), turn .inv .1, at-needed .ensures .0), omega (arith, at-needed .ensures .1))
+    (omega arith, omega (arith, sum-more (turn .i) (λ r. when (eqb (codeOf v r) segmentCode) (blocksOf (lenOf v r))), turn .inv .1, at-needed .ensures .0), omega (arith, at-needed .ensures .1))
 
 returns : tie.Need-returns Inv-loop μ-loop
 unfolding neededBlocks
@@ -47,7 +48,7 @@ returns c =
     let v = view (s .args .b .now) in
     let turn = c .before .loop in
     let e : turn .i ≡ rowCount = omega arith in
-    turn .inv .1 ∙ ap (λ (x : ℕ). Σ x (λ r. when (eqb (codeOf v r) 3) (blocksOf (lenOf v r)))) e
+    turn .inv .1 ∙ ap (λ (x : ℕ). Σ x (λ r. when (eqb (codeOf v r) segmentCode) (blocksOf (lenOf v r)))) e
 
 pub count-needed-spec : {M : Type 1} → statement M
 count-needed-spec =
