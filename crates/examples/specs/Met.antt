@@ -14,6 +14,7 @@ use Rattle.rules.specs.Kernel.{Call, createCategory, setLabel, createContainer,
 use Rattle.rules.specs.Sound.{Sound}
 use Rattle.rules.specs.Histories.{firstNumber, WellStarted}
 use Rattle.rules.specs.Ledger.{lineIf, lineOf, granted, grantedBy, charge, chargeBy, reckoned, spends, draws, needs, takesUnits, askedOf, unitsAsked, refusedEarlier, writer, Meanwhile, nothingYet, another}
+use Rattle.rules.specs.Trees.{inTree}
 use Rattle.rules.specs.Written.{lastWritten, leftBy}
 use Rattle.rules.specs.Theorems.StaysSound.{history-sound}
 use Rattle.rules.specs.Theorems.Reckoned.{reckoned-is-spare}
@@ -21,28 +22,40 @@ use Rattle.rules.specs.Theorems.Granted.{room-is-kept, growth-is-kept}
 use Rattle.rules.specs.Theorems.Shrinks.{reckoned-shrinks-by}
 use Rattle.examples.specs.Play.{wordsFor, lent, zeros32, into}
 
-one : List ℕ
+unfoldable pub one : List ℕ
 one = lent 2 []
 
-two : List ℕ
+unfoldable pub two : List ℕ
 two = lent 3 []
 
-tainted : List ℕ
+unfoldable pub tainted : List ℕ
 tainted = lent 2 ((102, 4) ∷ [])
 
+-- call 103: the job's container, granted 20 units
+unfoldable pub room : Call
+room = createContainer 100 tainted zeros32 0 20
+
+-- call 104: the segment in it, for its list
+unfoldable pub list : Call
+list = createSegment 103 tainted zeros32 0
+
+-- calls 102 and 103: the first create
+unfoldable pub morning : History
+morning = next (next (started 100) 101 createCategory) 101 room
+
+-- calls 102 to 105: the list has grown as far as its quota
+unfoldable pub grown : History
+grown = next (next morning 101 list) 101 (resize 103 104 256)
+
 -- calls 102 to 107: the job has its container and its segment, and the neighbour its thread
-pub granting : History
+unfoldable pub granting : History
 granting =
-    next (next (next (next (next (next (started 100)
-    101 createCategory)
-    101 (createContainer 100 tainted zeros32 0 20))
-    101 (createSegment 103 tainted zeros32 0))
-    101 (resize 103 104 256))
+    next (next grown
     101 (resize 103 104 257))
     101 (createThread 100 one two zeros32)
 
 -- calls 108 to 111: the neighbour looks, raises its label, and takes what it can get of the root
-pub crowding : History
+unfoldable pub crowding : History
 crowding =
     next (next (next (next granting
     107 (read 103 104 0 0 1))
@@ -51,15 +64,35 @@ crowding =
     107 (createSegment 100 one zeros32 233)
 
 -- the job's next create, for all that is left of its container
-pub fill : Call
+unfoldable pub fill : Call
 fill = createSegment 103 tainted zeros32 14
 
+-- calls 112 to 114: the root has no unit left, the job's container has its 14, and then none
+unfoldable pub filled : History
+filled = next (next crowding 101 (moveQuota 100 103 (into 1))) 101 fill
+
+unfoldable pub oneMore : Call
+oneMore = createSegment 103 tainted zeros32 1
+
+-- the whole day, to call 117: the neighbour's segment goes, and there is room again
+unfoldable pub wholeDay : History
+wholeDay =
+    next (next (next (next filled
+    101 oneMore)
+    101 (unreference 100 111))
+    111 createCategory)
+    101 (moveQuota 100 103 (into 1))
+
+-- beside the day: two bytes written to the list
+unfoldable pub noted : History
+noted = next granting 101 (write 103 104 0 0 2 (7 ∷ 9 ∷ []))
+
 started-well : WellStarted granting
-unfolding granting firstNumber startable
+unfolding granting grown morning firstNumber startable
 started-well = refl
 
 crowded-well : WellStarted crowding
-unfolding crowding granting firstNumber startable
+unfolding crowding granting grown morning firstNumber startable
 crowded-well = refl
 
 -- soundness (theorem 2) speaks of this history
@@ -79,20 +112,20 @@ pub record Met : Type 0 where
   -- theorem 6: and it makes the spare of 103 smaller
   pub shrinks : reckoned (next crowding 101 fill) 103 < reckoned crowding 103
 
-is-container : isContainer ((worldAfter granting .obj 103) .kind) ≡ true
-unfolding granting one two tainted wordsFor lent zeros32 worldAfter start call after tests judge must opens entry make move access forbids fits spareOf useOf charged units answerOf leaves apply put linkIn under below stays kept edit goodArguments goodLabel goodText holds allHold flow reading writing floorFlow flowJoin flowJoinHigh containerOf segmentOf gateOf threadOf clearedAt overwrite resized orDefault kindCode isLive isThread isGate isSegment isContainer hasClearance blank nothing Σ when any both either leAt leBytes levelAt everyNamed holdsB compareB zerosB wordsB formedB insertW roomB wordsAt labelOf wordsBytes labelBytes
+pub is-container : isContainer ((worldAfter granting .obj 103) .kind) ≡ true
+unfolding granting grown morning room list one two tainted wordsFor lent zeros32 worldAfter start call after tests judge must opens entry make move access forbids fits spareOf useOf charged units answerOf leaves apply put linkIn under below stays kept edit goodArguments goodLabel goodText holds allHold flow reading writing floorFlow flowJoin flowJoinHigh containerOf segmentOf gateOf threadOf clearedAt overwrite resized orDefault kindCode isLive isThread isGate isSegment isContainer hasClearance blank nothing Σ when any both either leAt leBytes levelAt everyNamed holdsB compareB zerosB wordsB formedB insertW roomB wordsAt labelOf wordsBytes labelBytes
 is-container = refl
 
-is-segment : isSegment ((worldAfter granting .obj 104) .kind) ≡ true
-unfolding granting one two tainted wordsFor lent zeros32 worldAfter start call after tests judge must opens entry make move access forbids fits spareOf useOf charged units answerOf leaves apply put linkIn under below stays kept edit goodArguments goodLabel goodText holds allHold flow reading writing floorFlow flowJoin flowJoinHigh containerOf segmentOf gateOf threadOf clearedAt overwrite resized orDefault kindCode isLive isThread isGate isSegment isContainer hasClearance blank nothing Σ when any both either leAt leBytes levelAt everyNamed holdsB compareB zerosB wordsB formedB insertW roomB wordsAt labelOf wordsBytes labelBytes
+pub is-segment : isSegment ((worldAfter granting .obj 104) .kind) ≡ true
+unfolding granting grown morning room list one two tainted wordsFor lent zeros32 worldAfter start call after tests judge must opens entry make move access forbids fits spareOf useOf charged units answerOf leaves apply put linkIn under below stays kept edit goodArguments goodLabel goodText holds allHold flow reading writing floorFlow flowJoin flowJoinHigh containerOf segmentOf gateOf threadOf clearedAt overwrite resized orDefault kindCode isLive isThread isGate isSegment isContainer hasClearance blank nothing Σ when any both either leAt leBytes levelAt everyNamed holdsB compareB zerosB wordsB formedB insertW roomB wordsAt labelOf wordsBytes labelBytes
 is-segment = refl
 
-quota-five : (worldAfter granting .obj 104) .quota ≡ 5
-unfolding granting one two tainted wordsFor lent zeros32 worldAfter start call after tests judge must opens entry make move access forbids fits spareOf useOf charged units answerOf leaves apply put linkIn under below stays kept edit goodArguments goodLabel goodText holds allHold flow reading writing floorFlow flowJoin flowJoinHigh containerOf segmentOf gateOf threadOf clearedAt overwrite resized orDefault kindCode isLive isThread isGate isSegment isContainer hasClearance blank nothing Σ when any both either leAt leBytes levelAt everyNamed holdsB compareB zerosB wordsB formedB insertW roomB wordsAt labelOf wordsBytes labelBytes
+pub quota-five : (worldAfter granting .obj 104) .quota ≡ 5
+unfolding granting grown morning room list one two tainted wordsFor lent zeros32 worldAfter start call after tests judge must opens entry make move access forbids fits spareOf useOf charged units answerOf leaves apply put linkIn under below stays kept edit goodArguments goodLabel goodText holds allHold flow reading writing floorFlow flowJoin flowJoinHigh containerOf segmentOf gateOf threadOf clearedAt overwrite resized orDefault kindCode isLive isThread isGate isSegment isContainer hasClearance blank nothing Σ when any both either leAt leBytes levelAt everyNamed holdsB compareB zerosB wordsB formedB insertW roomB wordsAt labelOf wordsBytes labelBytes
 quota-five = refl
 
 pub met : Met
-unfolding granting crowding fill reckoned granted grantedBy charge chargeBy lineIf lineOf refusedEarlier writer one two tainted wordsFor lent zeros32 worldAfter start call after tests judge must opens entry make move access forbids fits spareOf useOf charged units answerOf leaves apply put linkIn under below stays kept edit goodArguments goodLabel goodText holds allHold flow reading writing floorFlow flowJoin flowJoinHigh containerOf segmentOf gateOf threadOf clearedAt overwrite resized orDefault kindCode isLive isThread isGate isSegment isContainer hasClearance blank nothing Σ when any both either leAt leBytes levelAt everyNamed holdsB compareB zerosB wordsB formedB insertW roomB wordsAt labelOf wordsBytes labelBytes
+unfolding granting grown morning room list crowding fill reckoned granted grantedBy charge chargeBy lineIf lineOf refusedEarlier writer one two tainted wordsFor lent zeros32 worldAfter start call after tests judge must opens entry make move access forbids fits spareOf useOf charged units answerOf leaves apply put linkIn under below stays kept edit goodArguments goodLabel goodText holds allHold flow reading writing floorFlow flowJoin flowJoinHigh containerOf segmentOf gateOf threadOf clearedAt overwrite resized orDefault kindCode isLive isThread isGate isSegment isContainer hasClearance blank nothing Σ when any both either leAt leBytes levelAt everyNamed holdsB compareB zerosB wordsB formedB insertW roomB wordsAt labelOf wordsBytes labelBytes
 met =
     record {
       room = refl;
@@ -115,12 +148,56 @@ unfolding units
 still-grows =
     growth-is-kept granting started-well crowding 101 104 200 is-segment (omega (arith, quota-five)) (met .neighbours-of-list) 103 (met .grows)
 
+pub crowded-container : isContainer ((worldAfter crowding .obj 103) .kind) ≡ true
+unfolding crowding granting grown morning room list one two tainted wordsFor lent zeros32 worldAfter start call after tests judge must opens entry make move access forbids fits spareOf useOf charged units answerOf leaves apply put linkIn under below stays kept edit goodArguments goodLabel goodText holds allHold flow reading writing floorFlow flowJoin flowJoinHigh containerOf segmentOf gateOf threadOf clearedAt overwrite resized orDefault kindCode isLive isThread isGate isSegment isContainer hasClearance blank nothing Σ when any both either leAt leBytes levelAt everyNamed holdsB compareB zerosB wordsB formedB insertW roomB wordsAt labelOf wordsBytes labelBytes
+crowded-container = refl
+
+pub crowded-live : isLive ((worldAfter (next crowding 101 fill) .obj 103) .kind) ≡ true
+unfolding crowding granting grown morning room list fill one two tainted wordsFor lent zeros32 worldAfter start call after tests judge must opens entry make move access forbids fits spareOf useOf charged units answerOf leaves apply put linkIn under below stays kept edit goodArguments goodLabel goodText holds allHold flow reading writing floorFlow flowJoin flowJoinHigh containerOf segmentOf gateOf threadOf clearedAt overwrite resized orDefault kindCode isLive isThread isGate isSegment isContainer hasClearance blank nothing Σ when any both either leAt leBytes levelAt everyNamed holdsB compareB zerosB wordsB formedB insertW roomB wordsAt labelOf wordsBytes labelBytes
+crowded-live = refl
+
 -- and who made the spare smaller may write the container
 pub writer-did-it : writer (worldAfter crowding) 101 103 ≡ true
 writer-did-it = reckoned-shrinks-by crowding crowded-well 101 fill 103 crowded-container crowded-live (met .shrinks)
-  where
-    crowded-container : isContainer ((worldAfter crowding .obj 103) .kind) ≡ true
-    crowded-container = unfold crowding granting one two tainted wordsFor lent zeros32 worldAfter start call after tests judge must opens entry make move access forbids fits spareOf useOf charged units answerOf leaves apply put linkIn under below stays kept edit goodArguments goodLabel goodText holds allHold flow reading writing floorFlow flowJoin flowJoinHigh containerOf segmentOf gateOf threadOf clearedAt overwrite resized orDefault kindCode isLive isThread isGate isSegment isContainer hasClearance blank nothing Σ when any both either leAt leBytes levelAt everyNamed holdsB compareB zerosB wordsB formedB insertW roomB wordsAt labelOf wordsBytes labelBytes in refl
 
-    crowded-live : isLive ((worldAfter (next crowding 101 fill) .obj 103) .kind) ≡ true
-    crowded-live = unfold crowding granting fill one two tainted wordsFor lent zeros32 worldAfter start call after tests judge must opens entry make move access forbids fits spareOf useOf charged units answerOf leaves apply put linkIn under below stays kept edit goodArguments goodLabel goodText holds allHold flow reading writing floorFlow flowJoin flowJoinHigh containerOf segmentOf gateOf threadOf clearedAt overwrite resized orDefault kindCode isLive isThread isGate isSegment isContainer hasClearance blank nothing Σ when any both either leAt leBytes levelAt everyNamed holdsB compareB zerosB wordsB formedB insertW roomB wordsAt labelOf wordsBytes labelBytes in refl
+-- ---- calls of the day by themselves
+
+pub record Said : Type 0 where
+  -- call 102 is granted; the same of a caller that is no thread is refused
+  pub category : answerOf (call (worldAfter (started 100)) 101 createCategory) ≡ 0
+  pub stranger : answerOf (call (worldAfter (started 100)) 111 createCategory) ≡ 3
+  -- calls 103 and 104, the first two creates, are granted
+  pub first-create : answerOf (call (worldAfter (next (started 100) 101 createCategory)) 101 room) ≡ 0
+  pub second-create : answerOf (call (worldAfter morning) 101 list) ≡ 0
+  -- call 106, one byte more than the list's quota allows
+  pub too-long : answerOf (call (worldAfter grown) 101 (resize 103 104 257)) ≡ 13
+  -- after call 107 container 103 has quota 20, and the list in its tree holds 5 of them
+  pub quota : (worldAfter granting .obj 103) .quota ≡ 20
+  pub tree : inTree (worldAfter granting) 103 104 ≡ true
+  pub held : holdOf (worldAfter granting) 104 ≡ 5
+  -- after call 113 it has no unit left by the ledger, and call 114 passes all checks but that of spare
+  pub full : reckoned filled 103 ≡ 0
+  pub passed : refusedEarlier (answerOf (call (worldAfter filled) 101 oneMore)) ≡ false
+  -- two bytes written can be read
+  pub reads : answerOf (call (worldAfter noted) 101 (read 103 104 0 0 2)) ≡ 0
+  pub byte-0 : lastWritten noted 104 0 ≡ 7
+  pub byte-1 : lastWritten noted 104 1 ≡ 9
+
+pub day-said : Said
+unfolding wholeDay filled oneMore noted crowding fill granting grown morning room list reckoned granted grantedBy charge chargeBy lineIf lineOf lastWritten leftBy holdOf one two tainted wordsFor lent zeros32 worldAfter start call after tests judge must opens entry make move access forbids fits spareOf useOf charged units answerOf leaves apply put linkIn under below stays kept edit goodArguments goodLabel goodText holds allHold flow reading writing floorFlow flowJoin flowJoinHigh containerOf segmentOf gateOf threadOf clearedAt overwrite resized orDefault kindCode isLive isThread isGate isSegment isContainer hasClearance blank nothing Σ when any both either leAt leBytes levelAt everyNamed holdsB compareB zerosB wordsB formedB insertW roomB wordsAt labelOf wordsBytes labelBytes refusedEarlier
+day-said =
+    record {
+      category = refl;
+      stranger = refl;
+      first-create = refl;
+      second-create = refl;
+      too-long = refl;
+      quota = refl;
+      tree = refl;
+      held = refl;
+      full = refl;
+      passed = refl;
+      reads = refl;
+      byte-0 = refl;
+      byte-1 = refl;
+    }

@@ -1,0 +1,2 @@
+-- What the day leaves.
+pub mod Steps

@@ -1,0 +1,95 @@
+-- Page 01's day on the areas: the premises of each statement of Demands are met there, and what it promises is what the day computes. That there are such areas is what the
+-- program grantday is proved to leave.
+use Prim.Native.Nat.{ℕ, _+_, _≤_, _<_}
+use native.Mathlib.Omega.{arith}
+use mathlib.Core.Bool.{true, false, cond}
+use mathlib.Core.Path.{_≡_, refl, sym, ap, subst, _∙_}
+use mathlib.Core.List.{List, []}
+use lib.ListN.{length, getD}
+use lib.Dec.{leb}
+use Rattle.labels.specs.Le.{leAt, leSet}
+use Rattle.quotas.specs.Sum.{Σ, when}
+use Rattle.rules.specs.Kernel.{World, read, resize, isLive, isContainer, isSegment, units, holdOf, spareOf, orDefault, call, answerOf, worldAfter, next}
+use Rattle.rules.specs.Ledger.{lineIf, takesUnits, askedOf, unitsAsked, refusedEarlier, reckoned, writer}
+use Rattle.rules.specs.Trees.{inTree}
+use Rattle.tables.specs.Layout.{view}
+use Rattle.book.specs.Sound.{Sound}
+use Rattle.examples.specs.Met.{granting, grown, crowding, filled, noted, fill, oneMore, Met, met, Said, day-said, is-container, is-segment, quota-five, crowded-container, crowded-live}
+use Rattle.histories.specs.Areas.{Bytes, world, Called, After}
+use Rattle.histories.specs.Demands.{Refusal}
+use Rattle.histories.specs.Theorems.{demand-1, demand-2, spells-the-world, stays-sound, tree-holds, reckoned-is-the-spare, reads-show, granted-exactly, shrinks-by, room-kept, list-can-grow}
+
+-- call 107's container, as the areas have it
+job-room : (b area : List ℕ) → After granting b area → isContainer ((world b area .obj 103) .kind) ≡ true
+job-room b area a = subst (λ (w : World). isContainer ((w .obj 103) .kind) ≡ true) (sym (spells-the-world granting b area a)) is-container
+
+job-list : (b area : List ℕ) → After granting b area → (isSegment ((world b area .obj 104) .kind) ≡ true) × ((world b area .obj 104) .quota ≡ 5)
+job-list b area a =
+    subst (λ (w : World). (isSegment ((w .obj 104) .kind) ≡ true) × ((w .obj 104) .quota ≡ 5)) (sym (spells-the-world granting b area a)) (is-segment, quota-five)
+
+-- ---- Demand 1: call 106 is refused by 13, and leaves everything but the number.
+pub too-long : (b area : List ℕ) → Bytes b → After grown b area
+    → (answer value : ℕ) (b′ area′ : List ℕ) → Bytes b′ → Called b area 101 (resize 103 104 257) [] answer value b′ area′ []
+    → (answer ≡ 13) × (value ≡ 0) × (area′ ≡ area) × (b′ ≡ leSet 8 b 0 (leAt 8 b 0 + 1))
+too-long b area h a answer value b′ area′ h′ d =
+    let e : answer ≡ 13 = demand-2 grown b area a 101 (resize 103 104 257) [] answer value b′ area′ [] d .answer-is ∙ day-said .too-long in
+    let r = demand-1 b area 101 (resize 103 104 257) [] answer value b′ area′ [] h h′ d (λ z. omega arith) in
+    (e, r .value-zero, r .area-same, r .number-on (omega arith))
+
+-- ---- Demand 2: two bytes written are read.
+pub reads-back : (b area : List ℕ) → After noted b area
+    → (answer value : ℕ) (b′ area′ part : List ℕ) → Called b area 101 (read 103 104 0 0 2) [] answer value b′ area′ part
+    → (answer ≡ 0) × (length part ≡ 2) × (getD part 0 0 ≡ 7) × (getD part 1 0 ≡ 9)
+reads-back b area a answer value b′ area′ part d =
+    let e : answer ≡ 0 = demand-2 noted b area a 101 (read 103 104 0 0 2) [] answer value b′ area′ part d .answer-is ∙ day-said .reads in
+    let (l, shown) = reads-show noted b area a 101 103 104 0 0 2 answer value b′ area′ part d e in
+    (e, l, shown 0 (omega arith) ∙ day-said .byte-0, shown 1 (omega arith) ∙ day-said .byte-1)
+
+-- ---- Demand 3: the book is sound after the neighbour took all it could,
+pub crowded-sound : (b area : List ℕ) → After crowding b area → Sound (view b)
+crowded-sound = stays-sound crowding
+
+-- container 103 has its 14 units to spare, as the history tells and as the areas spell, and its tree holds no more than its 20,
+pub job-spare : (b area : List ℕ) → After granting b area → spareOf (world b area) 103 ≡ 14
+job-spare b area a = sym (reckoned-is-the-spare granting b area a 103 (job-room b area a)) ∙ met .room
+
+pub job-holds : (b area : List ℕ) → After granting b area → Σ (world b area .next) (λ o. when (inTree (world b area) 103 o) (holdOf (world b area) o)) ≤ 20
+job-holds b area a =
+    let q : (world b area .obj 103) .quota ≡ 20 = ap (λ (w : World). (w .obj 103) .quota) (spells-the-world granting b area a) ∙ day-said .quota in
+    omega (arith, tree-holds granting b area a 103 (job-room b area a), q)
+
+-- call 114 passes all earlier checks and does not fit the spare reckoned from the history, which is 0: 13.
+pub no-more : (b area : List ℕ) → After filled b area
+    → (answer value : ℕ) (b′ area′ : List ℕ) → Called b area 101 oneMore [] answer value b′ area′ [] → answer ≡ 13
+unfolding oneMore lineIf takesUnits askedOf unitsAsked orDefault
+no-more b area a answer value b′ area′ d =
+    let e = demand-2 filled b area a 101 oneMore [] answer value b′ area′ [] d .answer-is in
+    granted-exactly filled b area a 101 oneMore [] answer value b′ area′ [] d refl (subst (λ (n : ℕ). refusedEarlier n ≡ false) (sym e) (day-said .passed))
+    ∙ rw (day-said .full)
+
+-- and who made the spare of 103 smaller may write it.
+pub who-did-it : (b area : List ℕ) → After crowding b area → (b′ area′ : List ℕ) → After (next crowding 101 fill) b′ area′ → writer (world b area) 101 103 ≡ true
+who-did-it b area a b′ area′ a′ =
+    shrinks-by crowding b area a 101 fill b′ area′ a′ 103
+    (subst (λ (w : World). isContainer ((w .obj 103) .kind) ≡ true) (sym (spells-the-world crowding b area a)) crowded-container)
+    (subst (λ (w : World). isLive ((w .obj 103) .kind) ≡ true) (sym (spells-the-world (next crowding 101 fill) b′ area′ a′)) crowded-live)
+    (met .shrinks)
+
+-- ---- The fault cannot happen: after the neighbour took all it could, the job's container still takes the 14 units it had to spare,
+pub still-granted : (b area : List ℕ) → After granting b area → (b₂ area₂ : List ℕ) → After crowding b₂ area₂
+    → (answer value : ℕ) (b′ area′ : List ℕ) → Called b₂ area₂ 101 fill [] answer value b′ area′ [] → answer ≡ 0
+unfolding fill lineIf takesUnits askedOf unitsAsked orDefault
+still-granted b area a b₂ area₂ a₂ answer value b′ area′ d =
+    let e = demand-2 crowding b₂ area₂ a₂ 101 fill [] answer value b′ area′ [] d .answer-is in
+    room-kept granting b area a 103 14 (job-room b area a) (omega (arith, met .room)) crowding b₂ area₂ a₂ (met .neighbours) 101 fill [] answer value b′ area′ [] d
+    refl refl (omega arith) (subst (λ (n : ℕ). refusedEarlier n ≡ false) (sym e) (met .passes))
+
+-- and its list still grows.
+pub still-grows : (b area : List ℕ) → After granting b area → (b₂ area₂ : List ℕ) → After crowding b₂ area₂
+    → (answer value : ℕ) (b′ area′ : List ℕ) → Called b₂ area₂ 101 (resize 103 104 200) [] answer value b′ area′ [] → answer ≡ 0
+unfolding units
+still-grows b area a b₂ area₂ a₂ answer value b′ area′ d =
+    let e = demand-2 crowding b₂ area₂ a₂ 101 (resize 103 104 200) [] answer value b′ area′ [] d .answer-is in
+    let (segment, five) = job-list b area a in
+    list-can-grow granting b area a 104 200 segment (omega (arith, five)) crowding b₂ area₂ a₂ (met .neighbours-of-list) 101 103 [] answer value b′ area′ [] d
+    (subst (λ (n : ℕ). refusedEarlier n ≡ false) (sym e) (met .grows))

@@ -1,0 +1,163 @@
+-- The tester's demands as statements about the two lent areas. docs/DEMANDS.md explains each word; Theorems has the proofs.
+--
+-- Read `After h b area` as "after the history h the book is b and the data area is area", `Called b area c x out answer value b′ area′ out′` as "the call x by c, on these
+-- areas, returned answer and value and left b′, area′ and out′", and `world b area` as "the objects, links and bytes that the two areas spell".
+use Prim.Native.Nat.{ℕ, suc, _+_, _*_, _≤_, _<_}
+use mathlib.Core.Bool.{true, false, cond}
+use mathlib.Core.Path.{_≡_}
+use mathlib.Core.List.{List, [], _∷_}
+use lib.ListN.{length, getD}
+use lib.Dec.{leb}
+use lib.IntN.{negsuc}
+use Rattle.labels.specs.Le.{leAt, leSet}
+use Rattle.quotas.specs.Sum.{Σ, when}
+use Rattle.rules.specs.Kernel.{World, Call, moveQuota, read, resize, isLive, isContainer, isSegment, units, holdOf, spareOf, call, after, answerOf, valueOf, History, next, worldAfter, blockSize}
+use Rattle.rules.specs.Answers.{oneOf, numbersOf}
+use Rattle.rules.specs.Trees.{inTree}
+use Rattle.rules.specs.Written.{lastWritten}
+use Rattle.rules.specs.Ledger.{reckoned, spends, draws, needs, refusedEarlier, writer, Meanwhile}
+use Rattle.tables.specs.Layout.{view}
+use Rattle.book.specs.Sound.{Sound}
+use Rattle.book.specs.Test.{areasB}
+use Rattle.calls.specs.Outcome.{outputLeft}
+use Rattle.histories.specs.Areas.{Bytes, world, Called, After}
+
+-- ---- Demand 1
+
+-- "A refusal gives its number and the value 0; it leaves the data area, every output buffer and the whole book unchanged, save that the call number moves on by one (not
+-- even that after answers 1 and 2)." The call number is the book's first eight bytes, the lowest first.
+pub record Refusal (b area : List ℕ) (x : Call) (out : List ℕ) (answer value : ℕ) (b′ area′ out′ : List ℕ) : Type 0 where
+  pub number : oneOf answer (1 ∷ 2 ∷ 3 ∷ numbersOf x) ≡ true
+  pub value-zero : value ≡ 0
+  pub area-same : area′ ≡ area
+  pub output-same : out′ ≡ out
+  pub book-same : answer ≤ 2 → b′ ≡ b
+  pub number-on : 3 ≤ answer → b′ ≡ leSet 8 b 0 (leAt 8 b 0 + 1)
+
+-- "Each call must end, whatever bytes, ids, labels and lengths it is handed, and must check them itself": the exported functions are proved to end and ask for nothing, so
+-- this is about any two areas, good or bad, of any length. Whatever is not granted is such a refusal.
+abbrev pub Demand1 : Type 0
+Demand1 =
+    (b area : List ℕ) (c : ℕ) (x : Call) (out : List ℕ) (answer value : ℕ) (b′ area′ out′ : List ℕ) → Bytes b → Bytes b′
+    → Called b area c x out answer value b′ area′ out′
+    → (answer ≡ 0 → ⊥) → Refusal b area x out answer value b′ area′ out′
+
+-- ---- Demand 2
+
+-- "Each call must be granted, or refused by the first number that applies in the order of check, exactly as the .. rules on page 01 say, and leave exactly the objects,
+-- links and bytes they say." The rules are `Kernel.call` and `Kernel.after`.
+pub record AsRuled (w : World) (c : ℕ) (x : Call) (out : List ℕ) (answer value : ℕ) (b′ area′ out′ : List ℕ) : Type 0 where
+  pub answer-is : answer ≡ answerOf (call w c x)
+  pub value-is : value ≡ valueOf (call w c x)
+  pub output-is : out′ ≡ outputLeft (call w c x) out
+  pub world-is : world b′ area′ ≡ after w c x
+
+abbrev pub Demand2 : Type 0
+Demand2 =
+    (h : History) (b area : List ℕ) → After h b area
+    → (c : ℕ) (x : Call) (out : List ℕ) (answer value : ℕ) (b′ area′ out′ : List ℕ) → Called b area c x out answer value b′ area′ out′
+    → AsRuled (worldAfter h) c x out answer value b′ area′ out′
+
+-- The areas spell the rules' world of the history.
+abbrev pub SpellsTheWorld : Type 0
+SpellsTheWorld = (h : History) (b area : List ℕ) → After h b area → world b area ≡ worldAfter h
+
+-- There is only one outcome: the same call on the same areas, good or bad, gives the same answer, value, book, data area and output.
+abbrev pub OneOutcome : Type 0
+OneOutcome =
+    (b area : List ℕ) (c : ℕ) (x : Call) (out : List ℕ) (answer₁ value₁ : ℕ) (b₁ area₁ out₁ : List ℕ) (answer₂ value₂ : ℕ) (b₂ area₂ out₂ : List ℕ)
+    → Bytes b₁ → Bytes b₂ → Called b area c x out answer₁ value₁ b₁ area₁ out₁ → Called b area c x out answer₂ value₂ b₂ area₂ out₂
+    → (answer₁ ≡ answer₂) × (value₁ ≡ value₂) × (b₁ ≡ b₂) × (area₁ ≡ area₂) × (out₁ ≡ out₂)
+
+-- And of a whole history, whatever areas it began on.
+abbrev pub OneHistory : Type 0
+OneHistory = (h : History) (b₁ area₁ b₂ area₂ : List ℕ) → Bytes b₁ → Bytes b₂ → After h b₁ area₁ → After h b₂ area₂ → (b₁ ≡ b₂) × (area₁ ≡ area₂)
+
+-- "What a read shows is what the writes, clears and resizes left there": as many bytes as were asked for, each the one last written at its place.
+abbrev pub ReadShows : Type 0
+ReadShows =
+    (h : History) (b area : List ℕ) → After h b area
+    → (c d s k from count answer value : ℕ) (b′ area′ part : List ℕ) → Called b area c (read d s k from count) [] answer value b′ area′ part → answer ≡ 0
+    → (length part ≡ count) × ((i : ℕ) → i < count → getD part i 0 ≡ lastWritten h s (blockSize * k + from + i))
+
+-- ---- Demand 3
+
+-- "From a start, if only calls touch the two areas, the book stays sound", so no call ever answers 1,
+abbrev pub StaysSound : Type 0
+StaysSound = (h : History) (b area : List ℕ) → After h b area → Sound (view b)
+
+abbrev pub NeverOne : Type 0
+NeverOne =
+    (h : History) (b area : List ℕ) → After h b area
+    → (c : ℕ) (x : Call) (out : List ℕ) (answer value : ℕ) (b′ area′ out′ : List ℕ) → Called b area c x out answer value b′ area′ out′ → answer ≡ 1 → ⊥
+
+-- "and for each live container: the objects in its tree, each counted once, hold no more units than its quota;"
+abbrev pub TreeHolds : Type 0
+TreeHolds =
+    (h : History) (b area : List ℕ) → After h b area
+    → (d : ℕ) → isContainer ((world b area .obj d) .kind) ≡ true
+    → Σ (world b area .next) (λ o. when (inTree (world b area) d o) (holdOf (world b area) o)) ≤ (world b area .obj d) .quota
+
+-- "a create, a link or a move of quota out of it that passes all earlier checks is granted exactly when it fits the spare room reckoned from the history of grants and
+-- charges;" `draws` is the container that the call takes units from, `needs` how many. If it does not fit, the answer is 13.
+abbrev pub Exactly : Type 0
+Exactly =
+    (h : History) (b area : List ℕ) → After h b area
+    → (c : ℕ) (x : Call) (out : List ℕ) (answer value : ℕ) (b′ area′ out′ : List ℕ) → Called b area c x out answer value b′ area′ out′
+    → spends (world b area) x ≡ true → refusedEarlier answer ≡ false
+    → answer ≡ cond (leb (needs (world b area) x) (reckoned h (draws (world b area) x))) 0 13
+
+-- The same of units taken back from a container: they must be in its own spare.
+abbrev pub BackExactly : Type 0
+BackExactly =
+    (h : History) (b area : List ℕ) → After h b area
+    → (c d o n : ℕ) (out : List ℕ) (answer value : ℕ) (b′ area′ out′ : List ℕ) → Called b area c (moveQuota d o (negsuc n)) out answer value b′ area′ out′
+    → isContainer ((world b area .obj o) .kind) ≡ true → refusedEarlier answer ≡ false
+    → answer ≡ cond (leb (suc n) (reckoned h o)) 0 13
+
+-- The spare reckoned from the history is the spare that the areas spell: quota less use.
+abbrev pub ReckonedIsSpare : Type 0
+ReckonedIsSpare =
+    (h : History) (b area : List ℕ) → After h b area
+    → (d : ℕ) → isContainer ((world b area .obj d) .kind) ≡ true → reckoned h d ≡ spareOf (world b area) d
+
+-- "and that spare shrinks only by a call of a thread whose label may write that container."
+abbrev pub ShrinksBy : Type 0
+ShrinksBy =
+    (h : History) (b area : List ℕ) → After h b area
+    → (c : ℕ) (x : Call) (b′ area′ : List ℕ) → After (next h c x) b′ area′
+    → (d : ℕ) → isContainer ((world b area .obj d) .kind) ≡ true → isLive ((world b′ area′ .obj d) .kind) ≡ true
+    → reckoned (next h c x) d < reckoned h d → writer (world b area) c d ≡ true
+
+-- "Nothing is ever refused for want of room elsewhere." Two pairs of good areas that spell the same world, wherever its rows, links and blocks lie in them, give every call
+-- the same answer and value. So it is decided by the world alone; and by Exactly, 13 comes only from the container's own spare.
+abbrev pub ByTheWorldAlone : Type 0
+ByTheWorldAlone =
+    (b₁ area₁ b₂ area₂ : List ℕ) → areasB b₁ area₁ ≡ true → areasB b₂ area₂ ≡ true → world b₁ area₁ ≡ world b₂ area₂
+    → (c : ℕ) (x : Call) (out : List ℕ) (answer₁ value₁ : ℕ) (b₁′ area₁′ out₁ : List ℕ) (answer₂ value₂ : ℕ) (b₂′ area₂′ out₂ : List ℕ)
+    → Called b₁ area₁ c x out answer₁ value₁ b₁′ area₁′ out₁ → Called b₂ area₂ c x out answer₂ value₂ b₂′ area₂′ out₂
+    → (answer₁ ≡ answer₂) × (value₁ ≡ value₂) × (out₁ ≡ out₂) × (world b₁′ area₁′ ≡ world b₂′ area₂′)
+
+-- ---- The fault cannot happen
+
+-- "A neighbouring job had used room that the kernel had granted to another job's container." By the history h the container d has n units to spare. Then come any calls
+-- of neighbours, callers whose labels may not write d: the history is now k. Then a create, a link or a move of at most n units out of d, by any caller, that passes all
+-- earlier checks. It is granted.
+abbrev pub RoomIsKept : Type 0
+RoomIsKept =
+    (h : History) (b area : List ℕ) → After h b area
+    → (d n : ℕ) → isContainer ((world b area .obj d) .kind) ≡ true → n ≤ reckoned h d
+    → (k : History) (b₂ area₂ : List ℕ) → After k b₂ area₂ → Meanwhile d h k
+    → (c : ℕ) (x : Call) (out : List ℕ) (answer value : ℕ) (b′ area′ out′ : List ℕ) → Called b₂ area₂ c x out answer value b′ area′ out′
+    → spends (world b₂ area₂) x ≡ true → draws (world b₂ area₂) x ≡ d → needs (world b₂ area₂) x ≤ n → refusedEarlier answer ≡ false
+    → answer ≡ 0
+
+-- "So that job's list could not grow for its last entry." The quota of the segment s allows a list of n bytes. Then come any calls of neighbours, callers whose labels may
+-- not write s. Then a resize to n bytes, by any caller, that passes all earlier checks. It is granted.
+abbrev pub ListCanGrow : Type 0
+ListCanGrow =
+    (h : History) (b area : List ℕ) → After h b area
+    → (s n : ℕ) → isSegment ((world b area .obj s) .kind) ≡ true → units n ≤ (world b area .obj s) .quota
+    → (k : History) (b₂ area₂ : List ℕ) → After k b₂ area₂ → Meanwhile s h k
+    → (c d : ℕ) (out : List ℕ) (answer value : ℕ) (b′ area′ out′ : List ℕ) → Called b₂ area₂ c (resize d s n) out answer value b′ area′ out′
+    → refusedEarlier answer ≡ false → answer ≡ 0

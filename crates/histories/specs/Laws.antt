@@ -1,0 +1,3 @@
+-- From areas to worlds, and back.
+pub mod Refused
+pub mod Spelled

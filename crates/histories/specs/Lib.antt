@@ -1,0 +1,7 @@
+-- The demands, said of every history of the two lent areas.
+pub mod Areas
+pub mod Demands
+pub mod Laws
+pub mod Theorems
+pub mod Programs
+pub mod Day

@@ -1,0 +1,164 @@
+-- The demands are met. Each statement stands in Demands.
+use Prim.Native.Nat.{ℕ, suc, _+_, _*_, _≤_, _<_}
+use native.Mathlib.Omega.{arith}
+use mathlib.Core.Bool.{true, false, cond}
+use mathlib.Core.Path.{_≡_, refl, sym, ap, ap₂, subst, _∙_}
+use mathlib.Core.List.{List, []}
+use lib.ListN.{length, getD}
+use lib.Dec.{leb}
+use lib.IntN.{negsuc}
+use Rattle.quotas.specs.Sum.{Σ, when}
+use Rattle.rules.specs.Kernel.{World, Call, read, moveQuota, resize, isLive, isContainer, isSegment, units, holdOf, spareOf, call, after, answerOf, valueOf, outputOf, Verdict, refuse, grant, History, started, next, worldAfter, blockSize}
+use Rattle.rules.specs.Trees.{inTree}
+use Rattle.rules.specs.Written.{lastWritten}
+use Rattle.rules.specs.Ledger.{reckoned, spends, draws, needs, refusedEarlier, writer, Meanwhile}
+use Rattle.rules.specs.Theorems.Refusals.{never-one}
+use Rattle.rules.specs.Theorems.Holds.{history-tree-holds}
+use Rattle.rules.specs.Theorems.Reckoned.{reckoned-is-spare}
+use Rattle.rules.specs.Theorems.Exactly.{exactly, back-exactly}
+use Rattle.rules.specs.Theorems.Shrinks.{reckoned-shrinks-by}
+use Rattle.rules.specs.Theorems.Reads.{read-shows}
+use Rattle.rules.specs.Theorems.Granted.{room-is-kept, growth-is-kept}
+use Rattle.tables.specs.Layout.{View, view}
+use Rattle.tables.specs.Layout.Only.{view-only}
+use Rattle.book.specs.Book.{worldOf}
+use Rattle.calls.specs.Outcome.{verdictOn, bookLeft, areaLeft, outputLeft}
+use Rattle.calls.specs.Laws.Prelude.{book-long, book-sound}
+use Rattle.calls.specs.Theorems.Kept.{verdict-is, world-after}
+use Rattle.calls.specs.Theorems.One.{one-outcome}
+use Rattle.histories.specs.Areas.{world, Called, After, begun, called}
+use Rattle.histories.specs.Demands as the
+use Rattle.histories.specs.Laws.Refused.{as-done, refusal}
+use Rattle.histories.specs.Laws.Spelled.{spelled, ruled}
+
+-- ---- Demand 1
+
+pub demand-1 : the.Demand1
+demand-1 b area c x out answer value b′ area′ out′ h h′ d refused = refusal b area c x out answer value b′ area′ out′ h h′ d refused
+
+-- ---- Demand 2
+
+pub demand-2 : the.Demand2
+demand-2 h b area a c x out answer value b′ area′ out′ d = ruled h b area (spelled h b area a) c x out answer value b′ area′ out′ d
+
+pub spells-the-world : the.SpellsTheWorld
+spells-the-world h b area a = spelled h b area a .spells
+
+pub one-result : the.OneOutcome
+one-result b area c x out answer₁ value₁ b₁ area₁ out₁ answer₂ value₂ b₂ area₂ out₂ h i p q =
+    let same =
+    one-outcome b area c x _ _ b₁ area₁ b₂ area₂ h i
+    (as-done b area c x answer₁ value₁ b₁ area₁ (p .said)) (as-done b area c x answer₂ value₂ b₂ area₂ (q .said))
+    in
+    (p .said .answer-is ∙ sym (q .said .answer-is), p .said .value-is ∙ sym (q .said .value-is), same .book, same .area, p .output ∙ sym (q .output))
+
+-- what a verdict leaves goes by the tables and the data area alone
+same-left : (v v′ : Verdict) (w w′ : View) (l l′ : List ℕ) → v ≡ v′ → w ≡ w′ → l ≡ l′ → (bookLeft v w l ≡ bookLeft v′ w′ l′) × (areaLeft v w l ≡ areaLeft v′ w′ l′)
+same-left v v′ w w′ l l′ e f g = (rw (e, f, g), rw (e, f, g))
+
+one-by-one : {h : History} {b₁ area₁ b₂ area₂ : List ℕ} → After h b₁ area₁ → After h b₂ area₂ → (view b₁ ≡ view b₂) × (area₁ ≡ area₂)
+one-by-one (begun f c₁ d₁ b₁ area₁ s) (begun g c₂ d₂ b₂ area₂ t) =
+    (s .book-made (sym (s .answer)) ∙ sym (t .book-made (sym (t .answer))), s .area-made (sym (s .answer)) ∙ sym (t .area-made (sym (t .answer))))
+one-by-one (called h c₁ d₁ c x out₁ answer₁ value₁ b₁ area₁ given₁ a d) (called k c₂ d₂ c′ y out₂ answer₂ value₂ b₂ area₂ given₂ a₂ e) =
+    let (p, q) = one-by-one a a₂ in
+    let g = spelled h c₁ d₁ a .good in
+    let g₂ = spelled h c₂ d₂ a₂ .good in
+    let v = verdict-is c₁ d₁ g c x ∙ (ap₂ (λ (w : View) (l : List ℕ). call (worldOf w l) c x) p q ∙ sym (verdict-is c₂ d₂ g₂ c x)) in
+    let (m, n) = same-left _ _ _ _ _ _ v p q in
+    (d .said .left .book-left g ∙ (m ∙ sym (e .said .left .book-left g₂)), d .said .left .area-left ∙ (n ∙ sym (e .said .left .area-left)))
+
+pub one-history : the.OneHistory
+one-history h b₁ area₁ b₂ area₂ bytes₁ bytes₂ a a₂ =
+    let (p, q) = one-by-one a a₂ in
+    (view-only b₁ b₂ bytes₁ bytes₂ p (book-long b₁ area₁ (spelled h b₁ area₁ a .good)) (book-long b₂ area₂ (spelled h b₂ area₂ a₂ .good)), q)
+
+-- what an empty output becomes is the rules' output
+handed-out : (v : Verdict) → outputLeft v [] ≡ outputOf v
+unfolding outputLeft outputOf
+handed-out (refuse k) = refl
+handed-out (grant v o h) = refl
+
+pub reads-show : the.ReadShows
+reads-show h b area a c d s k from count answer value b′ area′ part t granted =
+    let r = demand-2 h b area a c (read d s k from count) [] answer value b′ area′ part t in
+    subst (λ (l : List ℕ). (length l ≡ count) × ((i : ℕ) → i < count → getD l i 0 ≡ lastWritten h s (blockSize * k + from + i)))
+    (sym (r .output-is ∙ handed-out (call (worldAfter h) c (read d s k from count))))
+    (read-shows h c d s k from count (sym (r .answer-is) ∙ granted))
+
+-- ---- Demand 3
+
+pub stays-sound : the.StaysSound
+stays-sound h b area a = book-sound b area (spelled h b area a .good)
+
+pub no-call-answers-1 : the.NeverOne
+no-call-answers-1 h b area a c x out answer value b′ area′ out′ d e =
+    never-one (worldAfter h) c x (sym (demand-2 h b area a c x out answer value b′ area′ out′ d .answer-is) ∙ e)
+
+pub tree-holds : the.TreeHolds
+tree-holds h b area a d container =
+    let p = spelled h b area a in
+    let within : Σ (world b area .next) (λ o. when (inTree (world b area) d o) (holdOf (world b area) o)) ≤ (world b area .obj d) .quota =
+    subst (λ (w : World). isContainer ((w .obj d) .kind) ≡ true → Σ (w .next) (λ o. when (inTree w d o) (holdOf w o)) ≤ (w .obj d) .quota)
+    (sym (p .spells)) (history-tree-holds h (p .started-well) d) container
+    in
+    omega (arith, within)
+
+pub granted-exactly : the.Exactly
+granted-exactly h b area a c x out answer value b′ area′ out′ d =
+    let p = spelled h b area a in
+    let e = demand-2 h b area a c x out answer value b′ area′ out′ d .answer-is in
+    subst (λ (w : World). spends w x ≡ true → refusedEarlier answer ≡ false → answer ≡ cond (leb (needs w x) (reckoned h (draws w x))) 0 13)
+    (sym (p .spells))
+    (λ q n. e ∙ exactly h (p .started-well) c x q (subst (λ (i : ℕ). refusedEarlier i ≡ false) e n))
+
+pub taken-back-exactly : the.BackExactly
+taken-back-exactly h b area a c d o n out answer value b′ area′ out′ t =
+    let p = spelled h b area a in
+    let e = demand-2 h b area a c (moveQuota d o (negsuc n)) out answer value b′ area′ out′ t .answer-is in
+    subst (λ (w : World). isContainer ((w .obj o) .kind) ≡ true → refusedEarlier answer ≡ false → answer ≡ cond (leb (suc n) (reckoned h o)) 0 13)
+    (sym (p .spells))
+    (λ q m. e ∙ back-exactly h (p .started-well) c d o n q (subst (λ (i : ℕ). refusedEarlier i ≡ false) e m))
+
+pub reckoned-is-the-spare : the.ReckonedIsSpare
+reckoned-is-the-spare h b area a =
+    let p = spelled h b area a in
+    subst (λ (w : World). (d : ℕ) → isContainer ((w .obj d) .kind) ≡ true → reckoned h d ≡ spareOf w d) (sym (p .spells)) (reckoned-is-spare h (p .started-well))
+
+pub shrinks-by : the.ShrinksBy
+shrinks-by h b area a c x b′ area′ a′ d =
+    let p = spelled h b area a in
+    let q = spelled (next h c x) b′ area′ a′ in
+    subst (λ (w : World). isContainer ((w .obj d) .kind) ≡ true → isLive ((world b′ area′ .obj d) .kind) ≡ true → reckoned (next h c x) d < reckoned h d → writer w c d ≡ true)
+    (sym (p .spells))
+    (λ k l s. reckoned-shrinks-by h (p .started-well) c x d k (subst (λ (w : World). isLive ((w .obj d) .kind) ≡ true) (q .spells) l) s)
+
+pub by-the-world-alone : the.ByTheWorldAlone
+by-the-world-alone b₁ area₁ b₂ area₂ g₁ g₂ e c x out answer₁ value₁ b₁′ area₁′ out₁ answer₂ value₂ b₂′ area₂′ out₂ p q =
+    let v : verdictOn b₁ area₁ c x ≡ verdictOn b₂ area₂ c x = verdict-is b₁ area₁ g₁ c x ∙ (ap (λ (w : World). call w c x) e ∙ sym (verdict-is b₂ area₂ g₂ c x)) in (
+      p .said .answer-is ∙ (ap answerOf v ∙ sym (q .said .answer-is)),
+      p .said .value-is ∙ (ap valueOf v ∙ sym (q .said .value-is)),
+      p .output ∙ (ap (λ (i : Verdict). outputLeft i out) v ∙ sym (q .output)),
+      world-after b₁ area₁ g₁ c x b₁′ area₁′ (p .said .left) ∙ (ap (λ (w : World). after w c x) e ∙ sym (world-after b₂ area₂ g₂ c x b₂′ area₂′ (q .said .left))),
+    )
+
+-- ---- The fault cannot happen
+
+pub room-kept : the.RoomIsKept
+room-kept h b area a d n container fits k b₂ area₂ a₂ others c x out answer value b′ area′ out′ t taking from few passed =
+    let p = spelled h b area a in
+    let q = spelled k b₂ area₂ a₂ in
+    let e = demand-2 k b₂ area₂ a₂ c x out answer value b′ area′ out′ t .answer-is in
+    let is : isContainer ((worldAfter h .obj d) .kind) ≡ true = subst (λ (w : World). isContainer ((w .obj d) .kind) ≡ true) (p .spells) container in
+    let enough : needs (world b₂ area₂) x ≤ n = omega (arith, few) in
+    e
+    ∙ room-is-kept h (p .started-well) k c d n is fits others x (subst (λ (w : World). spends w x ≡ true) (q .spells) taking)
+    (subst (λ (w : World). draws w x ≡ d) (q .spells) from) (subst (λ (w : World). needs w x ≤ n) (q .spells) enough)
+    (subst (λ (i : ℕ). refusedEarlier i ≡ false) e passed)
+
+pub list-can-grow : the.ListCanGrow
+list-can-grow h b area a s n segment fits k b₂ area₂ a₂ others c d out answer value b′ area′ out′ t m =
+    let p = spelled h b area a in
+    let e = demand-2 k b₂ area₂ a₂ c (resize d s n) out answer value b′ area′ out′ t .answer-is in
+    let is : isSegment ((worldAfter h .obj s) .kind) ≡ true = subst (λ (w : World). isSegment ((w .obj s) .kind) ≡ true) (p .spells) segment in
+    let room : units n ≤ (worldAfter h .obj s) .quota = subst (λ (w : World). units n ≤ (w .obj s) .quota) (p .spells) fits in
+    e ∙ growth-is-kept h (p .started-well) k c s n is room others d (subst (λ (i : ℕ). refusedEarlier i ≡ false) e m)
