@@ -21,6 +21,8 @@ pub mod Judged
 pub mod Find
 pub mod Start
 pub mod Seen
+pub mod Once
+pub mod Marks
 pub mod Filled
 pub mod Make
 pub mod Cleared

@@ -10,6 +10,7 @@ pub mod Make
 pub mod Tally
 pub mod Find
 pub mod Seen
+pub mod Marks
 pub mod Resize
 pub mod Units
 pub mod Cut

@@ -23,6 +23,10 @@ offsetOf v r = Σ r (needsOf v)
 unfoldable pub numberOf : View → ℕ → ℕ
 numberOf v b = offsetOf v (ownerOf v b - 1) + indexOf v b
 
+-- how many of the blocks below n are used
+unfoldable pub usedBelow : View → ℕ → ℕ
+usedBelow v n = Σ n (λ b. when (not (eqb (ownerOf v b) 0)) 1)
+
 -- how many of the blocks below n have the number x
 unfoldable pub seenBelow : View → ℕ → ℕ → ℕ
 seenBelow v n x = Σ n (λ b. when (not (eqb (ownerOf v b) 0)) (when (eqb (numberOf v b) x) 1))

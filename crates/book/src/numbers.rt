@@ -21,13 +21,6 @@ pub fn index(x: u16) -> usize
     x as usize
 }
 
-pub fn small(x: usize) -> u16
-    requires { ⌜ x < 65536 ⌝ }
-    ensures { λ r. ⌜ r ≡ x ⌝ }
-{
-    x as u16
-}
-
 // The row that a mark names: a mark is 0, or one more than a row.
 pub fn row_of(mark: u16) -> usize
     requires { ⌜ (mark ≡ 0 → ⊥) ⌝ }

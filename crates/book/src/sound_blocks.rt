@@ -9,13 +9,11 @@ ghost use Rattle.quotas.specs.Sum.{when};
 ghost use Rattle.rules.specs.Kernel.{segmentCode};
 ghost use Rattle.tables.specs.Layout.{size, view, rowCount, blockCount};
 ghost use Rattle.book.specs.Book.{codeOf, lenOf, ownerOf, blocksOf};
-ghost use Rattle.book.specs.Test.{every, ownedB, blockB, usedBlocks, neededBlocks, blocksB};
+ghost use Rattle.book.specs.Test.{every, ownedB, blockB, neededBlocks, blocksB};
 ghost use Rattle.book.specs.Seen.{numberOf, Offsets, Seen};
 use super::kinds::SEGMENT;
 use super::numbers::blocks_of;
-use super::numbers::index;
 use super::numbers::row_of;
-use super::numbers::small;
 use super::numbers::small_index;
 use tables::BLOCKS;
 use tables::INDEX;
@@ -39,19 +37,6 @@ fn used(b: &[u8], i: usize) -> usize
     1
 }
 
-fn count_used(b: &[u8]) -> usize
-    requires { ⌜ length (now b) ≡ size ⌝ }
-    ensures { λ n. ⌜ n ≡ usedBlocks (view (now (b .entry))) ⌝ }
-{
-    let mut sum: usize = 0;
-    let mut i: usize = 0;
-    while i < BLOCKS {
-        sum += used(b, i);
-        i += 1;
-    }
-    sum
-}
-
 // The blocks that row r needs: none, if it is no segment.
 fn needed(b: &[u8], r: usize) -> usize
     requires { ⌜ (length (now b) ≡ size) × (r < rowCount) ⌝ }
@@ -63,33 +48,21 @@ fn needed(b: &[u8], r: usize) -> usize
     blocks_of(get16(b, LEN, r))
 }
 
-fn count_needed(b: &[u8]) -> usize
-    requires { ⌜ length (now b) ≡ size ⌝ }
-    ensures { λ n. ⌜ n ≡ neededBlocks (view (now (b .entry))) ⌝ }
+// ---- numbers of blocks
+
+// Where each segment's blocks begin, and how many blocks all need. In a book that is not sound that may be more than two bytes hold.
+fn place(b: &[u8], offsets: &mut [u32; ROWS]) -> usize
+    requires { ⌜ (length (now b) ≡ size) × (now offsets ≡ replicate rowCount 0) ⌝ }
+    ensures { λ n. ⌜ (n ≡ neededBlocks (view (now (b .entry)))) × Offsets (view (now (b .entry))) rowCount (now (offsets .exit)) ⌝ }
 {
     let mut sum: usize = 0;
     let mut i: usize = 0;
     while i < ROWS {
+        offsets[i] = sum as u32;
         sum += needed(b, i);
         i += 1;
     }
     sum
-}
-
-// ---- numbers of blocks
-
-// Where each segment's blocks begin.
-fn place(b: &[u8], offsets: &mut [u16; ROWS])
-    requires { ⌜ (length (now b) ≡ size) × (neededBlocks (view (now b)) ≤ blockCount) × (now offsets ≡ replicate rowCount 0) ⌝ }
-    ensures { λ _. ⌜ Offsets (view (now (b .entry))) rowCount (now (offsets .exit)) ⌝ }
-{
-    let mut sum: usize = 0;
-    let mut i: usize = 0;
-    while i < ROWS {
-        offsets[i] = small(sum);
-        sum += needed(b, i);
-        i += 1;
-    }
 }
 
 fn owned(b: &[u8], i: usize) -> bool
@@ -106,16 +79,23 @@ fn owned(b: &[u8], i: usize) -> bool
     small_index(get8(b, INDEX, i)) < blocks_of(get16(b, LEN, owner))
 }
 
-fn number(b: &[u8], offsets: &[u16; ROWS], i: usize) -> usize
+// An offset as a number that is counted with.
+fn offset(x: u32) -> usize
+    ensures { λ r. ⌜ (r ≡ x) × (r < 4294967296) ⌝ }
+{
+    x as usize
+}
+
+fn number(b: &[u8], offsets: &[u32; ROWS], i: usize) -> usize
     requires { ⌜ (length (now b) ≡ size) × (i < blockCount) × (ownerOf (view (now b)) i ≡ 0 → ⊥) × (ownedB (view (now b)) i ≡ true) × (neededBlocks (view (now b)) ≤ blockCount) × Offsets (view (now b)) rowCount (now offsets) ⌝ }
     ensures { λ n. ⌜ (n ≡ numberOf (view (now (b .entry))) i) × (n < blockCount) ⌝ }
 {
     let owner = row_of(get16(b, OWNER, i));
-    index(offsets[owner]) + small_index(get8(b, INDEX, i))
+    offset(offsets[owner]) + small_index(get8(b, INDEX, i))
 }
 
 // Whether block i is as it should be, where those below it are; if so, its number is seen.
-fn block_ok(b: &[u8], offsets: &[u16; ROWS], seen: &mut [u8; BLOCKS], i: usize) -> bool
+fn block_ok(b: &[u8], offsets: &[u32; ROWS], seen: &mut [u8; BLOCKS], i: usize) -> bool
     requires { ⌜ (length (now b) ≡ size) × (i < blockCount) × (neededBlocks (view (now b)) ≤ blockCount) × Offsets (view (now b)) rowCount (now offsets) × (every i (blockB (view (now b))) ≡ true) × Seen (view (now b)) i (now seen) ⌝ }
     ensures { λ t. ⌜ (t ≡ blockB (view (now (b .entry))) i) × (t ≡ true → Seen (view (now (b .entry))) (i + 1) (now (seen .exit))) ⌝ }
 {
@@ -133,29 +113,32 @@ fn block_ok(b: &[u8], offsets: &[u16; ROWS], seen: &mut [u8; BLOCKS], i: usize) 
     true
 }
 
-fn each_ok(b: &[u8], offsets: &[u16; ROWS], seen: &mut [u8; BLOCKS]) -> bool
-    requires { ⌜ (length (now b) ≡ size) × (neededBlocks (view (now b)) ≤ blockCount) × Offsets (view (now b)) rowCount (now offsets) × (now seen ≡ replicate blockCount 0) ⌝ }
-    ensures { λ t. ⌜ t ≡ every blockCount (blockB (view (now (b .entry)))) ⌝ }
+// Whether each block is as it should be, and as many are used as are asked for.
+fn each_ok(b: &[u8], offsets: &[u32; ROWS], seen: &mut [u8; BLOCKS], asked: usize) -> bool
+    requires { ⌜ (length (now b) ≡ size) × (asked ≡ neededBlocks (view (now b))) × (asked ≤ blockCount) × Offsets (view (now b)) rowCount (now offsets) × (now seen ≡ replicate blockCount 0) ⌝ }
+    ensures { λ t. ⌜ t ≡ blocksB (view (now (b .entry))) ⌝ }
 {
+    let mut sum: usize = 0;
     let mut i: usize = 0;
     while i < BLOCKS {
         if !block_ok(b, offsets, seen, i) {
             return false;
         }
+        sum += used(b, i);
         i += 1;
     }
-    true
+    sum == asked
 }
 
 pub fn blocks_ok(b: &[u8]) -> bool
     requires { ⌜ length (now b) ≡ size ⌝ }
     ensures { λ t. ⌜ t ≡ blocksB (view (now (b .entry))) ⌝ }
 {
-    if count_used(b) != count_needed(b) {
+    let mut offsets = [0u32; ROWS];
+    let asked = place(b, &mut offsets);
+    if BLOCKS < asked {
         return false;
     }
-    let mut offsets = [0u16; ROWS];
-    place(b, &mut offsets);
     let mut seen = [0u8; BLOCKS];
-    each_ok(b, &offsets, &mut seen)
+    each_ok(b, &offsets, &mut seen, asked)
 }

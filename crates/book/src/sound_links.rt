@@ -7,7 +7,7 @@ ghost use Rattle.tables.specs.Layout.{size, view, rowCount, linkCount};
 ghost use Rattle.book.specs.Book.{markOf};
 ghost use Rattle.book.specs.Sound.{linksTo, chargedTo};
 ghost use Rattle.book.specs.Test.{every, maskN, endsB, linkB, sameB, onceB, tiedN, fitsN, tieB, rowsB, linksB};
-ghost use Rattle.book.specs.Tally.{Tallied};
+ghost use Rattle.book.specs.Tally.{linksBelow, tallyB, Tallied};
 use super::kinds::CONTAINER;
 use super::kinds::FREE;
 use super::kinds::SEGMENT;
@@ -75,6 +75,48 @@ fn link_ok(b: &[u8], l: usize) -> bool
     ends_ok(b, l)
 }
 
+// ---- no link twice
+
+// Whether links l and m are the same.
+fn same(b: &[u8], l: usize, m: usize) -> bool
+    requires { ⌜ (length (now b) ≡ size) × (l < linkCount) × (m < linkCount) ⌝ }
+    ensures { λ t. ⌜ t ≡ sameB (view (now (b .entry))) l m ⌝ }
+{
+    if get16(b, LINK_TO, l) != get16(b, LINK_TO, m) {
+        return false;
+    }
+    get16(b, LINK_FROM, l) == get16(b, LINK_FROM, m)
+}
+
+fn link_new(b: &[u8], l: usize) -> bool
+    requires { ⌜ (length (now b) ≡ size) × (l < linkCount) ⌝ }
+    ensures { λ t. ⌜ t ≡ every l (λ m. not (sameB (view (now (b .entry))) l m)) ⌝ }
+{
+    let mut i: usize = 0;
+    while i < l {
+        if same(b, l, i) {
+            return false;
+        }
+        i += 1;
+    }
+    true
+}
+
+// Whether no link below l is the same, where counts has what leads to each row from there: an object to which none leads needs no look at them.
+fn once(b: &[u8], counts: &[u16; ROWS], l: usize) -> bool
+    requires { ⌜ (length (now b) ≡ size) × (l < linkCount) × (linkB (view (now b)) l ≡ true) × ((r : ℕ) → r < rowCount → getD (now counts) r 0 ≡ linksBelow (view (now b)) l r) ⌝ }
+    ensures { λ t. ⌜ t ≡ onceB (view (now (b .entry))) (linksTo (view (now (b .entry)))) l ⌝ }
+{
+    if get16(b, LINK_FROM, l) == 0 {
+        return true;
+    }
+    let to = index(get16(b, LINK_TO, l));
+    if counts[to] == 0 {
+        return true;
+    }
+    link_new(b, l)
+}
+
 // ---- one pass over the links
 
 fn add_at(a: &mut [u16; ROWS], i: usize, w: u16)
@@ -100,14 +142,17 @@ fn add_link(b: &[u8], l: usize, counts: &mut [u16; ROWS], charges: &mut [u16; RO
     add_at(charges, from, quota);
 }
 
-// Whether every link leads from a container to an object; if so, what leads to each row and what is charged to it.
+// Whether every link leads from a container to an object and none occurs twice; if so, what leads to each row and what is charged to it.
 fn tally(b: &[u8], counts: &mut [u16; ROWS], charges: &mut [u16; ROWS]) -> bool
     requires { ⌜ (length (now b) ≡ size) × (rowsB (view (now b)) ≡ true) × (now counts ≡ replicate rowCount 0) × (now charges ≡ replicate rowCount 0) ⌝ }
-    ensures { λ t. ⌜ (t ≡ every linkCount (linkB (view (now (b .entry))))) × (t ≡ true → Tallied (view (now (b .entry))) linkCount (now (counts .exit)) (now (charges .exit))) ⌝ }
+    ensures { λ t. ⌜ (t ≡ tallyB (view (now (b .entry)))) × (t ≡ true → Tallied (view (now (b .entry))) linkCount (now (counts .exit)) (now (charges .exit))) ⌝ }
 {
     let mut i: usize = 0;
     while i < LINKS {
         if !link_ok(b, i) {
+            return false;
+        }
+        if !once(b, counts, i) {
             return false;
         }
         add_link(b, i, counts, charges);
@@ -182,62 +227,6 @@ fn ties_ok(b: &[u8], counts: &[u16; ROWS], charges: &[u16; ROWS]) -> bool
     true
 }
 
-// ---- no link twice
-
-// Whether links l and m are the same.
-fn same(b: &[u8], l: usize, m: usize) -> bool
-    requires { ⌜ (length (now b) ≡ size) × (l < linkCount) × (m < linkCount) ⌝ }
-    ensures { λ t. ⌜ t ≡ sameB (view (now (b .entry))) l m ⌝ }
-{
-    if get16(b, LINK_TO, l) != get16(b, LINK_TO, m) {
-        return false;
-    }
-    get16(b, LINK_FROM, l) == get16(b, LINK_FROM, m)
-}
-
-fn link_new(b: &[u8], l: usize) -> bool
-    requires { ⌜ (length (now b) ≡ size) × (l < linkCount) ⌝ }
-    ensures { λ t. ⌜ t ≡ every l (λ m. not (sameB (view (now (b .entry))) l m)) ⌝ }
-{
-    let mut i: usize = 0;
-    while i < l {
-        if same(b, l, i) {
-            return false;
-        }
-        i += 1;
-    }
-    true
-}
-
-// Links to an object that has no other need no look at the others.
-fn once(b: &[u8], counts: &[u16; ROWS], l: usize) -> bool
-    requires { ⌜ (length (now b) ≡ size) × (l < linkCount) × (every linkCount (linkB (view (now b))) ≡ true) × ((r : ℕ) → r < rowCount → getD (now counts) r 0 ≡ linksTo (view (now b)) r) ⌝ }
-    ensures { λ t. ⌜ t ≡ onceB (view (now (b .entry))) (linksTo (view (now (b .entry)))) l ⌝ }
-{
-    if get16(b, LINK_FROM, l) == 0 {
-        return true;
-    }
-    let to = index(get16(b, LINK_TO, l));
-    if counts[to] <= 1 {
-        return true;
-    }
-    link_new(b, l)
-}
-
-fn onces_ok(b: &[u8], counts: &[u16; ROWS]) -> bool
-    requires { ⌜ (length (now b) ≡ size) × (every linkCount (linkB (view (now b))) ≡ true) × ((r : ℕ) → r < rowCount → getD (now counts) r 0 ≡ linksTo (view (now b)) r) ⌝ }
-    ensures { λ t. ⌜ t ≡ every linkCount (onceB (view (now (b .entry))) (linksTo (view (now (b .entry))))) ⌝ }
-{
-    let mut i: usize = 0;
-    while i < LINKS {
-        if !once(b, counts, i) {
-            return false;
-        }
-        i += 1;
-    }
-    true
-}
-
 // ---- all of it
 
 pub fn links_ok(b: &[u8]) -> bool
@@ -250,9 +239,6 @@ pub fn links_ok(b: &[u8]) -> bool
         return false;
     }
     if !ties_ok(b, &counts, &charges) {
-        return false;
-    }
-    if !onces_ok(b, &counts) {
         return false;
     }
     !id_absent(b, ROWS, root(b))

@@ -1,11 +1,12 @@
 // Whether each row, by itself, is as in a sound book: ranges, ids and labels.
 ghost use mathlib.Core.Path.{_≡_};
-ghost use mathlib.Core.Bool.{not};
-ghost use Prim.Native.Nat.{_<_, _≤_};
-ghost use lib.ListN.{length};
+ghost use mathlib.Core.Bool.{true, not};
+ghost use Prim.Native.Nat.{_+_, _%_, _<_, _≤_};
+ghost use lib.ListN.{length, replicate};
 ghost use Rattle.tables.specs.Layout.{size, view, rowCount};
-ghost use Rattle.book.specs.Book.{labelOf, clearanceOf, hasId};
-ghost use Rattle.book.specs.Test.{every, rangeN, rangeB, idB, clearB, labelB, rowB, rowsB};
+ghost use Rattle.book.specs.Book.{idOf, labelOf, clearanceOf, hasId};
+ghost use Rattle.book.specs.Test.{every, rangeN, rangeB, newB, idB, clearB, labelB, rowB, rowsB};
+ghost use Rattle.book.specs.Marks.{markCount, Marked};
 use super::kinds::CONTAINER;
 use super::kinds::FREE;
 use super::kinds::MAX_MASK;
@@ -32,6 +33,9 @@ use tables::get8;
 use tables::get16;
 use tables::get64;
 use tables::next;
+
+// How many marks there are for ids: ids in use that were issued within this many calls of one another have a mark each.
+const MARKS: usize = 2048;
 
 const MAX_LENGTH: u16 = 16256;
 
@@ -103,9 +107,28 @@ pub fn id_absent(b: &[u8], n: usize, id: u64) -> bool
     true
 }
 
-fn id_ok(b: &[u8], r: usize) -> bool
-    requires { ⌜ (length (now b) ≡ size) × (r < rowCount) ⌝ }
-    ensures { λ t. ⌜ t ≡ idB (view (now (b .entry))) r ⌝ }
+fn mark_of(id: u64) -> usize
+    ensures { λ n. ⌜ (n ≡ id % markCount) × (n < markCount) ⌝ }
+{
+    (id % 2048) as usize
+}
+
+// Whether no live row below r has the id of row r. Those rows are looked at only where one of them made the same mark.
+fn id_new(b: &[u8], r: usize, id: u64, marks: &mut [u8; MARKS]) -> bool
+    requires { ⌜ (length (now b) ≡ size) × (r < rowCount) × (id ≡ idOf (view (now b)) r) × Marked (view (now b)) r (now marks) ⌝ }
+    ensures { λ t. ⌜ (t ≡ newB (view (now (b .entry))) r) × Marked (view (now (b .entry))) (r + 1) (now (marks .exit)) ⌝ }
+{
+    let place = mark_of(id);
+    if marks[place] == 0 {
+        marks[place] = 1;
+        return true;
+    }
+    id_absent(b, r, id)
+}
+
+fn id_ok(b: &[u8], r: usize, marks: &mut [u8; MARKS]) -> bool
+    requires { ⌜ (length (now b) ≡ size) × (r < rowCount) × Marked (view (now b)) r (now marks) ⌝ }
+    ensures { λ t. ⌜ (t ≡ idB (view (now (b .entry))) r) × (t ≡ true → Marked (view (now (b .entry))) (r + 1) (now (marks .exit))) ⌝ }
 {
     let id = get64(b, ID, r);
     if id < 1 {
@@ -114,7 +137,7 @@ fn id_ok(b: &[u8], r: usize) -> bool
     if next(b) <= id {
         return false;
     }
-    id_absent(b, r, id)
+    id_new(b, r, id, marks)
 }
 
 fn label_at(b: &[u8], r: usize) -> Label
@@ -163,9 +186,9 @@ fn label_ok(b: &[u8], r: usize) -> bool
     clear_ok(b, r, label)
 }
 
-fn row_ok(b: &[u8], r: usize) -> bool
-    requires { ⌜ (length (now b) ≡ size) × (r < rowCount) ⌝ }
-    ensures { λ t. ⌜ t ≡ rowB (view (now (b .entry))) r ⌝ }
+fn row_ok(b: &[u8], r: usize, marks: &mut [u8; MARKS]) -> bool
+    requires { ⌜ (length (now b) ≡ size) × (r < rowCount) × Marked (view (now b)) r (now marks) ⌝ }
+    ensures { λ t. ⌜ (t ≡ rowB (view (now (b .entry))) r) × (t ≡ true → Marked (view (now (b .entry))) (r + 1) (now (marks .exit))) ⌝ }
 {
     if get8(b, KIND, r) == FREE {
         return true;
@@ -173,10 +196,24 @@ fn row_ok(b: &[u8], r: usize) -> bool
     if !range_ok(b, r) {
         return false;
     }
-    if !id_ok(b, r) {
+    if !id_ok(b, r, marks) {
         return false;
     }
     label_ok(b, r)
+}
+
+fn each_ok(b: &[u8], marks: &mut [u8; MARKS]) -> bool
+    requires { ⌜ (length (now b) ≡ size) × (now marks ≡ replicate markCount 0) ⌝ }
+    ensures { λ t. ⌜ t ≡ every rowCount (rowB (view (now (b .entry)))) ⌝ }
+{
+    let mut i: usize = 0;
+    while i < ROWS {
+        if !row_ok(b, i, marks) {
+            return false;
+        }
+        i += 1;
+    }
+    true
 }
 
 // Whether the next number and every row by itself are in order.
@@ -187,12 +224,6 @@ pub fn rows_ok(b: &[u8]) -> bool
     if NEXT_MOST < next(b) {
         return false;
     }
-    let mut i: usize = 0;
-    while i < ROWS {
-        if !row_ok(b, i) {
-            return false;
-        }
-        i += 1;
-    }
-    true
+    let mut marks = [0u8; MARKS];
+    each_ok(b, &mut marks)
 }

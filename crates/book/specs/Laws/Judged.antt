@@ -4,14 +4,13 @@ use native.Mathlib.Omega.{arith}
 use mathlib.Core.Bool.{Bool, true, false, not, cond, _&&_}
 use mathlib.Core.Path.{_≡_, refl, sym, _∙_, ap}
 use lib.Dec.{eqb, ltb, leb}
-use borrow.Author.Tests.{eq-eqb, ne-eqb, le-leb, lt-leb, le-ltb, lt-ltb, leb-true, leb-false}
+use borrow.Author.Tests.{eq-eqb, ne-eqb, le-ltb, lt-ltb, leb-true, leb-false}
 use Rattle.labels.specs.declared.Label.{Label}
 use Rattle.labels.specs.Core.{wellFormed, flows}
 use Rattle.quotas.specs.Any.{any, both, either}
 use Rattle.tables.specs.Layout.{View}
-use Rattle.book.specs.Book.{nextOf, idOf, codeOf, labelOf, clearanceOf, markOf, toOf, liveRow, hasId, isThreadOrGate}
-use Rattle.book.specs.Sound.{linksTo}
-use Rattle.book.specs.Test.{every, clearB, labelB, sameB, onceB}
+use Rattle.book.specs.Book.{nextOf, idOf, codeOf, labelOf, clearanceOf, liveRow, hasId, isThreadOrGate}
+use Rattle.book.specs.Test.{every, clearB, labelB}
 
 -- ---- tests
 
@@ -72,19 +71,3 @@ label-read v r k s l n ek es el en t et =
     ∙ ap (λ (x : Bool). wellFormed (nextOf v) x l && cond x (clearB v r) true) (sym es)
     ∙ ap (λ (m : ℕ). wellFormed m s l && cond s (clearB v r) true) (sym en)
     ∙ ap (λ (x : Bool). x && cond s (clearB v r) true) et
-
--- ---- links, by what was counted
-
--- A link to an object that has no other is the same as none.
-pub once-few : (v : View) (l o n : ℕ) → o ≡ toOf v l → n ≡ linksTo v o → n ≤ 1 → onceB v (linksTo v) l ≡ true
-unfolding onceB
-once-few v l o n eo en h = go (eqb (markOf v l) 0)
-  where
-    go : (b : Bool) → cond b true (cond (leb (linksTo v (toOf v l)) 1) true (every l (λ m. not (sameB v l m)))) ≡ true
-    go true = refl
-    go false = rw (le-leb (linksTo v (toOf v l)) 1 (omega (arith, en, ap (linksTo v) eo)))
-
--- A link to an object that has others is compared with those below it.
-pub once-many : (v : View) (l o n : ℕ) → (markOf v l ≡ 0 → ⊥) → o ≡ toOf v l → n ≡ linksTo v o → 1 < n → onceB v (linksTo v) l ≡ every l (λ m. not (sameB v l m))
-unfolding onceB
-once-many v l o n ne eo en h = rw (ne-eqb (markOf v l) 0 ne, lt-leb (linksTo v (toOf v l)) 1 (omega (arith, en, ap (linksTo v) eo)))

@@ -68,8 +68,8 @@ module _ (v : View) where
       rw (lt-ltb (fromOf v l) rowCount (s .from-low), lt-ltb (toOf v l) rowCount (s .to-low), eq-eqb (codeOf v (fromOf v l)) containerCode (s .from-container), not-by (eqb (codeOf v (toOf v l)) 0) (λ t. s .to-live (eqb-true (codeOf v (toOf v l)) 0 t)))
       (only-by (eqb (codeOf v (toOf v l)) containerCode) _ (λ t. eq-eqb _ _ (p .1 (eqb-true (codeOf v (toOf v l)) containerCode t)))))
 
-  -- a live link counts at its object
-  counted : (l o : ℕ) → On v l → toOf v l ≡ o → when (liveLink v l) (when (eqb (toOf v l) o) 1) ≡ 1
+  -- A live link counts at its object.
+  pub counted : (l o : ℕ) → On v l → toOf v l ≡ o → when (liveLink v l) (when (eqb (toOf v l) o) 1) ≡ 1
   counted l o on e = when-true (liveLink v l) _ (not-by (eqb (markOf v l) 0) (λ t. on .used (eqb-true (markOf v l) 0 t))) ∙ when-true (eqb (toOf v l) o) 1 (eq-eqb (toOf v l) o e)
 
   -- An object to which one link leads has no link twice, so only others need be looked at.

@@ -18,7 +18,7 @@ use Rattle.tables.specs.Layout.{View, rowCount, blockCount}
 use Rattle.book.specs.Book.{codeOf, lenOf, ownerOf, indexOf, blocksOf}
 use Rattle.book.specs.Sound.{Used, Owned}
 use Rattle.book.specs.Test.{every, ownedB, twinB, blockB, usedBlocks, neededBlocks, blocksB}
-use Rattle.book.specs.Seen.{needsOf, offsetOf, numberOf, seenBelow, Offsets, Seen}
+use Rattle.book.specs.Seen.{needsOf, offsetOf, numberOf, seenBelow, usedBelow, Offsets, Seen}
 use Rattle.book.specs.Laws.Tests.{and-l, and-r, and-fails, not-by, not-of, apart, every-of, every-by, every-fails}
 use Rattle.book.specs.Laws.Tally.{added, zeros-are, zeros-long}
 use Rattle.book.specs.Laws.MeansBlocks.{ones, up, owned-is, block-of}
@@ -41,8 +41,17 @@ unfolding usedBlocks
 used-most v =
     omega (arith, sum-mono blockCount (λ b. when (not (eqb (ownerOf v b) 0)) 1) (λ b. 1) (λ b l. when-le (not (eqb (ownerOf v b) 0)) 1 1 (λ e. omega arith)), ones blockCount)
 
+-- Of the blocks before one more are used those before it, and it if it is.
+pub used-none : (v : View) → usedBelow v 0 ≡ 0
+unfolding usedBelow Σ
+used-none v = refl
+
+pub used-more : (v : View) (i : ℕ) → usedBelow v (i + 1) ≡ usedBelow v i + when (not (eqb (ownerOf v i) 0)) 1
+unfolding usedBelow
+used-more v i = sum-more i (λ b. when (not (eqb (ownerOf v b) 0)) 1)
+
 module _ (v : View) where
-  -- The rows before one more need what they need and what it needs.
+  -- The rows before one more need what they need and what it needs,
   pub offset-none : offsetOf v 0 ≡ 0
   unfolding offsetOf Σ
   offset-none = refl
@@ -51,7 +60,12 @@ module _ (v : View) where
   unfolding offsetOf
   offset-more r = sum-more r (needsOf v)
 
-  -- and no more than all rows
+  -- all rows what is needed,
+  pub offset-all : offsetOf v rowCount ≡ neededBlocks v
+  unfolding offsetOf neededBlocks
+  offset-all = refl
+
+  -- and those before a row, with it, no more.
   pub offset-most : (r : ℕ) → r < rowCount → offsetOf v r + needsOf v r ≤ neededBlocks v
   unfolding offsetOf neededBlocks
   offset-most r l = sum-below rowCount (needsOf v) r l
@@ -172,16 +186,19 @@ module _ (v : View) (n : ℕ) (a : List ℕ) (s : Seen v n a) where
 
 -- ---- all blocks
 
-and-true : (a b : Bool) → b ≡ true → (a && b) ≡ a
-and-true true b e = e
-and-true false b e = refl
-
--- Too many or too few.
-pub blocks-off : (v : View) → (usedBlocks v ≡ neededBlocks v → ⊥) → blocksB v ≡ false
+-- More are needed than there are.
+pub blocks-over : (v : View) → blockCount < neededBlocks v → blocksB v ≡ false
 unfolding blocksB
-blocks-off v ne = and-fails (every blockCount (blockB v)) (eqb (usedBlocks v) (neededBlocks v)) (ne-eqb (usedBlocks v) (neededBlocks v) ne)
+blocks-over v l =
+    and-fails (every blockCount (blockB v)) (eqb (usedBlocks v) (neededBlocks v)) (ne-eqb (usedBlocks v) (neededBlocks v) (λ e. omega (arith, used-most v, e)))
 
--- As many as are needed: each is asked.
-pub blocks-each : (v : View) → usedBlocks v ≡ neededBlocks v → blocksB v ≡ every blockCount (blockB v)
+-- One is not as it should be.
+pub blocks-fail : (v : View) (i : ℕ) → i < blockCount → blockB v i ≡ false → blocksB v ≡ false
 unfolding blocksB
-blocks-each v e = and-true (every blockCount (blockB v)) (eqb (usedBlocks v) (neededBlocks v)) (eq-eqb (usedBlocks v) (neededBlocks v) e)
+blocks-fail v i l e = rw (every-fails blockCount (blockB v) i l e)
+
+-- Each is: they are counted.
+pub blocks-end : (v : View) (i sum asked : ℕ) → i ≡ blockCount → every i (blockB v) ≡ true → sum ≡ usedBelow v i → asked ≡ neededBlocks v → eqb sum asked ≡ blocksB v
+unfolding blocksB usedBelow usedBlocks
+blocks-end v i sum asked e h eu en =
+    rw (sym (ap (λ (x : ℕ). every x (blockB v)) e) ∙ h) (ap₂ eqb (eu ∙ ap (λ (x : ℕ). Σ x (λ b. when (not (eqb (ownerOf v b) 0)) 1)) e) en)

@@ -4,11 +4,10 @@ use native.Mathlib.Omega.{arith}
 use mathlib.Core.Path.{sym, _∙_}
 use lib.ListN.{getD}
 use borrow.Author.Tests.{eq-eqb}
-use Rattle.tables.specs.Layout.{view, rowCount, linkCount}
-use Rattle.book.specs.Test.{linkB, onceB}
-use Rattle.book.specs.Laws.Tests.{every-of}
+use Rattle.tables.specs.Layout.{view, rowCount}
+use Rattle.book.specs.Test.{onceB}
 use Rattle.book.specs.Laws.Tally.{link-to-low}
-use Rattle.book.specs.Laws.Judged.{once-few, once-many}
+use Rattle.book.specs.Laws.Once.{once-first, once-again}
 use Rattle.book.proofs.sound_links.once.Statement.{statement}
 use Rattle.book.proofs.sound_links.once.Tie as tie
 
@@ -28,19 +27,15 @@ index-requires c κs = search needs
 mul-if2 : tie.Need-mul-if2
 mul-if2 c =
     let s = c .before .before .before .before .before in
-    let pre = s .pre in
-    let v = view (s .args .b .now) in
     let at-index = c .index in
-    let low : at-index .result < rowCount = omega (arith, link-to-low v (s .args .l) (pre .1) (every-of linkCount (linkB v) (pre .2) (s .args .l) (pre .1)) (λ z. c .before .before .if1 .left (c .before .before .before .get16 .ensures ∙ z)), (at-index .ensures .0 ∙ c .before .get162 .ensures)) in
+    let low : at-index .result < rowCount = omega (arith, link-to-low (view (s .args .b .now)) (s .args .l) (s .pre .1) (s .pre .2) (λ z. c .before .before .if1 .left (c .before .before .before .get16 .ensures ∙ z)), (at-index .ensures .0 ∙ c .before .get162 .ensures)) in
     omega arith
 
 element-copy-out-if2 : tie.Need-element-copy-out-if2
 element-copy-out-if2 c =
     let s = c .before .before .before .before .before in
-    let pre = s .pre in
-    let v = view (s .args .b .now) in
     let at-index = c .index in
-    let low : at-index .result < rowCount = omega (arith, link-to-low v (s .args .l) (pre .1) (every-of linkCount (linkB v) (pre .2) (s .args .l) (pre .1)) (λ z. c .before .before .if1 .left (c .before .before .before .get16 .ensures ∙ z)), (at-index .ensures .0 ∙ c .before .get162 .ensures)) in
+    let low : at-index .result < rowCount = omega (arith, link-to-low (view (s .args .b .now)) (s .args .l) (s .pre .1) (s .pre .2) (λ z. c .before .before .if1 .left (c .before .before .before .get16 .ensures ∙ z)), (at-index .ensures .0 ∙ c .before .get162 .ensures)) in
     omega arith
 
 returns-2 : tie.Need-returns-2
@@ -50,8 +45,8 @@ returns-2 c =
     let v = view (s .args .b .now) in
     let at-index = c .before .before .index in
     let at-get162 = c .before .before .before .get162 in
-    let low : at-index .result < rowCount = omega (arith, link-to-low v (s .args .l) (pre .1) (every-of linkCount (linkB v) (pre .2) (s .args .l) (pre .1)) (λ z. c .before .before .before .before .if1 .left (c .before .before .before .before .before .get16 .ensures ∙ z)), (at-index .ensures .0 ∙ at-get162 .ensures)) in
-    sym (once-few v (s .args .l) (at-index .result) (getD (s .args .counts .now) (at-index .result) 0) (at-index .ensures .0 ∙ at-get162 .ensures) (pre .3 (at-index .result) low) (c .if2 .taken))
+    let low : at-index .result < rowCount = omega (arith, link-to-low v (s .args .l) (pre .1) (pre .2) (λ z. c .before .before .before .before .if1 .left (c .before .before .before .before .before .get16 .ensures ∙ z)), (at-index .ensures .0 ∙ at-get162 .ensures)) in
+    sym (once-first v (s .args .l) (at-index .result) (getD (s .args .counts .now) (at-index .result) 0) (pre .1) (at-index .ensures .0 ∙ at-get162 .ensures) (pre .3 (at-index .result) low) (c .if2 .taken))
 
 link-new-requires : tie.Need-link-new-requires
 link-new-requires c κs = search needs
@@ -65,8 +60,8 @@ returns-3 c =
     let at-get162 = c .before .before .before .before .get162 in
     let at-if1 = c .before .before .before .before .before .if1 in
     let at-get16 = c .before .before .before .before .before .before .get16 in
-    let low : at-index .result < rowCount = omega (arith, link-to-low v (s .args .l) (pre .1) (every-of linkCount (linkB v) (pre .2) (s .args .l) (pre .1)) (λ z. at-if1 .left (at-get16 .ensures ∙ z)), (at-index .ensures .0 ∙ at-get162 .ensures)) in
-    c .link-new .ensures ∙ sym (once-many v (s .args .l) (at-index .result) (getD (s .args .counts .now) (at-index .result) 0) (λ z. at-if1 .left (at-get16 .ensures ∙ z)) (at-index .ensures .0 ∙ at-get162 .ensures) (pre .3 (at-index .result) low) (c .before .if2 .left))
+    let low : at-index .result < rowCount = omega (arith, link-to-low v (s .args .l) (pre .1) (pre .2) (λ z. at-if1 .left (at-get16 .ensures ∙ z)), (at-index .ensures .0 ∙ at-get162 .ensures)) in
+    c .link-new .ensures ∙ sym (once-again v (s .args .l) (at-index .result) (getD (s .args .counts .now) (at-index .result) 0) (pre .1) (at-index .ensures .0 ∙ at-get162 .ensures) (pre .3 (at-index .result) low) (λ z. at-if1 .left (at-get16 .ensures ∙ z)) (c .before .if2 .left))
 
 pub once-spec : {M : Type 1} → statement M
 once-spec =
