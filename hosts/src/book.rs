@@ -4,8 +4,10 @@ pub mod books;
 pub mod compounds;
 pub mod damage;
 pub mod place;
+pub mod positions;
 pub mod script;
 pub mod shapes;
+pub mod spelt;
 pub mod words;
 
 use crate::labels::*;

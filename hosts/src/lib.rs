@@ -3,6 +3,7 @@
 pub mod antt;
 pub mod ask;
 pub mod book;
+pub mod coverage;
 pub mod drawn;
 pub mod histories;
 pub mod history;

@@ -1,13 +1,10 @@
 //! Drawn histories: first calls that build something, then those whose call and answer were seen least.
 
+use crate::coverage::{count_one, Seen};
 use crate::drawn::Drawer;
 use crate::history::{History, Script};
 use crate::model::{Call, Kind, World, GRANTED, LABEL_CONDITION, MALFORMED};
 use crate::random::Random;
-use std::collections::BTreeMap;
-
-/// How often each call gave each answer.
-pub type Seen = BTreeMap<(u64, u64), usize>;
 
 /// How many calls are drawn for each that is taken.
 const DRAWN_FOR_EACH: usize = 40;
@@ -20,10 +17,6 @@ pub fn count(seen: &mut Seen, history: &History) {
     for turn in &history.turns {
         count_one(seen, turn.call.number(), turn.outcome.answer);
     }
-}
-
-fn count_one(seen: &mut Seen, call: u64, answer: u64) {
-    *seen.entry((call, answer)).or_insert(0) += 1;
 }
 
 /// A history of so many calls.

@@ -9,39 +9,18 @@ use std::path::Path;
 use std::process::exit;
 
 use flytewood_hosts::antt;
+use flytewood_hosts::coverage::{Seen, Table};
 use flytewood_hosts::histories::by_hand;
 use flytewood_hosts::history::{History, Turn};
 use flytewood_hosts::model::Call;
 use flytewood_hosts::random::Random;
-use flytewood_hosts::steered::{count, steered, Seen};
+use flytewood_hosts::steered::{count, steered};
 
 const COMMAND: &str = "cargo run --release --manifest-path hosts/Cargo.toml --bin short_histories --";
 const SEED: u64 = 0x7368_6F72_7421;
 const DRAWN: usize = 6;
 const IN_A_FILE: usize = 10;
 const HIGH_NUMBERS: u64 = 1000;
-
-/// The answers that each call can give; answer 1 is not the model's.
-const CAN_OCCUR: [(&str, &[u64]); 16] = [
-    ("createCategory", &[0, 2, 3, 12]),
-    ("setLabel", &[0, 2, 3, 4, 7]),
-    ("setClearance", &[0, 2, 3, 4, 7]),
-    ("createContainer", &[0, 2, 3, 4, 5, 7, 8, 13]),
-    ("createSegment", &[0, 2, 3, 4, 5, 7, 8, 13]),
-    ("createGate", &[0, 2, 3, 4, 5, 7, 8, 13]),
-    ("createThread", &[0, 2, 3, 4, 5, 7, 8, 13]),
-    ("unreference", &[0, 2, 3, 5, 7]),
-    ("linkSegment", &[0, 2, 3, 5, 6, 7, 9, 10, 13]),
-    ("fixQuota", &[0, 2, 3, 5, 6, 7]),
-    ("moveQuota", &[0, 2, 3, 4, 5, 6, 7, 9, 13]),
-    ("read", &[0, 2, 3, 4, 5, 6, 7, 11]),
-    ("write", &[0, 2, 3, 4, 5, 6, 7, 11]),
-    ("resize", &[0, 2, 3, 4, 5, 6, 7, 13]),
-    ("enterGate", &[0, 2, 3, 4, 5, 6, 7]),
-    ("look", &[0, 2, 3, 4, 5]),
-];
-
-const ANSWERS: [u64; 13] = [0, 2, 3, 4, 5, 6, 7, 8, 9, 10, 11, 12, 13];
 
 fn main() {
     let arguments: Vec<String> = env::args().collect();
@@ -95,29 +74,11 @@ fn answers(history: &History) -> String {
 
 /// Prints how often each call gave each answer; gives the number of cells that are not as they should be.
 fn print_table(seen: &Seen) -> usize {
-    let heads: Vec<String> = ANSWERS.iter().map(|answer| format!("{:>4}", answer)).collect();
-    eprintln!("{:<19}{}", "answers", heads.concat());
-    let mut wrong = 0;
-    for (i, (name, can_occur)) in CAN_OCCUR.iter().enumerate() {
-        let number = i as u64 + 1;
-        let mut cells = String::new();
-        for answer in ANSWERS.iter() {
-            let times = seen.get(&(number, *answer)).copied().unwrap_or(0);
-            let can = can_occur.contains(answer);
-            wrong += usize::from(can != (times > 0));
-            cells.push_str(&cell(times, can));
-        }
-        eprintln!("{:>2} {:<16}{}", number, name, cells);
+    let table = Table { seen, areas: false };
+    for line in table.lines() {
+        eprintln!("{}", line);
     }
-    wrong
-}
-
-fn cell(times: usize, can_occur: bool) -> String {
-    if times > 0 {
-        format!("{:>4}", times)
-    } else {
-        format!("{:>4}", if can_occur { "!" } else { "." })
-    }
+    table.empty().len() + table.impossible().len()
 }
 
 fn write_files(folder: &str, histories: Vec<History>) {

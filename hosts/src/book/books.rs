@@ -21,6 +21,25 @@ pub fn all_books(random: &mut Random) -> Vec<Start> {
     books
 }
 
+/// One sound book of any size and style.
+pub fn any_book(random: &mut Random) -> Vec<u8> {
+    let things = match random.below(12) {
+        0 => flat(random),
+        1 => shared(random),
+        2 => many_segments(random),
+        3 => tight(random, 6),
+        4 => chain(random, 60),
+        _ => {
+            let count = random.between(1, 60) as usize;
+            let most = random.pick(&[3, 5, 40, 255]);
+            grown(random, count, most)
+        }
+    };
+    let turn = random.below(24) as usize;
+    let garbage = random.pick(&[0, 3, 10]);
+    styled(random, turn, &things, garbage)
+}
+
 /// "Start makes the root container f (label {1}, quota 256, mask 0) and in it thread f+1 (label {1}, clearance {2})."
 pub fn start_book(first: u64) -> Vec<u8> {
     let mut book = vec![0; BOOK_LEN];

@@ -1,0 +1,215 @@
+//! The byte kernel and the model answer alike, and the book spells the model's world after every call.
+
+use flytewood_bytekernel as bytes;
+use flytewood_hosts::book::*;
+use flytewood_hosts::drawn::Drawer;
+use flytewood_hosts::histories;
+use flytewood_hosts::model::{Body, Call, Kind, Object, Outcome, World, GRANTED};
+use flytewood_hosts::random::Random;
+use flytewood_hosts::steered::steered;
+use std::collections::{BTreeMap, BTreeSet};
+
+const AREA_LEN: usize = 16_384;
+const CALLS: usize = 400;
+const FIRST: u64 = 5;
+
+struct Machine {
+    book: Vec<u8>,
+    area: Vec<u8>,
+}
+
+impl Machine {
+    /// What stood in the areas before is not zero.
+    fn start(first: u64) -> Machine {
+        let mut machine = Machine { book: vec![0xA5; BOOK_LEN], area: vec![0x5A; AREA_LEN] };
+        assert_eq!(bytes::start(&mut machine.book, &mut machine.area, first), GRANTED);
+        machine
+    }
+
+    fn call(&mut self, caller: u64, call: &Call) -> Outcome {
+        let (b, a) = (&mut self.book[..], &mut self.area[..]);
+        let mut value = u64::MAX;
+        let v = &mut value;
+        let mut output = Vec::new();
+        let answer = match call {
+            Call::CreateCategory => bytes::create_category(b, a, caller, v),
+            Call::SetLabel { label } => bytes::set_label(b, a, caller, label, v),
+            Call::SetClearance { clearance } => bytes::set_clearance(b, a, caller, clearance, v),
+            Call::CreateContainer { d, label, description, mask, quota } => {
+                bytes::create_container(b, a, caller, *d, label, description, *mask, *quota, v)
+            }
+            Call::CreateSegment { d, label, description, quota } => {
+                bytes::create_segment(b, a, caller, *d, label, description, *quota, v)
+            }
+            Call::CreateGate { d, label, clearance, entry, closure, description } => {
+                bytes::create_gate(b, a, caller, *d, label, clearance, *entry, closure, description, v)
+            }
+            Call::CreateThread { d, label, clearance, description } => {
+                bytes::create_thread(b, a, caller, *d, label, clearance, description, v)
+            }
+            Call::Unreference { d, o } => bytes::unreference(b, a, caller, *d, *o, v),
+            Call::LinkSegment { d1, o, d } => bytes::link_segment(b, a, caller, *d1, *o, *d, v),
+            Call::FixQuota { d, o } => bytes::fix_quota(b, a, caller, *d, *o, v),
+            Call::MoveQuota { d, o, n } => bytes::move_quota(b, a, caller, *d, *o, *n, v),
+            Call::Read { d, s, k, from, count } => {
+                let (mut place, mut length) = (u64::MAX, u64::MAX);
+                let answer = bytes::read(b, a, caller, *d, *s, *k, *from, *count, &mut place, &mut length, v);
+                output = a[place as usize..(place + length) as usize].to_vec();
+                answer
+            }
+            Call::Write { d, s, k, from, count, bytes: lent } => {
+                bytes::write(b, a, caller, *d, *s, *k, *from, *count, lent, v)
+            }
+            Call::Resize { d, s, length } => bytes::resize(b, a, caller, *d, *s, *length, v),
+            Call::EnterGate { d, g, label_r, clearance_r, label_v, output_len } => {
+                output = vec![0; *output_len as usize];
+                bytes::enter_gate(b, a, caller, *d, *g, label_r, clearance_r, label_v, &mut output, v)
+            }
+            Call::Look { d, o, output_len } => {
+                output = vec![0xEE; *output_len as usize];
+                bytes::look(b, a, caller, *d, *o, &mut output, v)
+            }
+        };
+        if answer != GRANTED {
+            output.clear();
+        }
+        Outcome { answer, value, output }
+    }
+
+    /// The world that the two areas spell.
+    fn world(&self) -> World {
+        let b = &self.book;
+        let rows = rows_in_use(b);
+        let objects: BTreeMap<u64, Object> =
+            rows.into_iter().map(|row| (get(b, ID, row), self.object(row))).collect();
+        let id = |row| get(b, ID, row);
+        let links: BTreeSet<(u64, u64)> =
+            links_in_use(b).into_iter().map(|(from, to)| (id(from), id(to))).collect();
+        World { next: get(b, NEXT, 0), objects, links }
+    }
+
+    fn object(&self, row: usize) -> Object {
+        let b = &self.book;
+        let text = |table: Table| b[table.place(32 * row)..table.place(32 * row + 32)].to_vec();
+        let clearance = clearance_of(b, row);
+        let body = match get(b, KIND, row) {
+            THREAD => Body::Thread { clearance },
+            GATE => Body::Gate { clearance, entry: get(b, ENTRY, row), closure: text(CLOSURE) },
+            SEGMENT => Body::Segment { bytes: self.bytes(row), fixed: get(b, FIXED, row) == 1 },
+            _ => Body::Container { mask: get(b, MASK, row) },
+        };
+        Object { label: label_of(b, row), description: text(DESCRIPTION), quota: get(b, QUOTA, row), body }
+    }
+
+    fn bytes(&self, row: usize) -> Vec<u8> {
+        let b = &self.book;
+        let owner = |block: usize| get(b, OWNER, block);
+        let mut bytes = Vec::new();
+        for index in 0..blocks_for(get(b, LEN, row)) {
+            let is_it = |block: &usize| owner(*block) == row as u64 + 1 && get(b, INDEX, *block) == index;
+            let block = (0..BLOCKS).find(is_it).expect("a sound book");
+            bytes.extend_from_slice(&self.area[64 * block..64 * block + 64]);
+        }
+        bytes.truncate(get(b, LEN, row) as usize);
+        bytes
+    }
+}
+
+/// One call in both.
+fn same(machine: &mut Machine, world: &mut World, caller: u64, call: &Call) -> Outcome {
+    let before = (machine.book.clone(), machine.area.clone());
+    let outcome = machine.call(caller, call);
+    assert_eq!(outcome, world.call(caller, call), "{} asks {:?}", caller, call);
+    assert!(sound(&machine.book), "after {:?}", call);
+    assert_eq!(&machine.world(), world, "after {:?}", call);
+    if outcome.answer != GRANTED {
+        assert_eq!(machine.book[8..], before.0[8..]);
+        assert_eq!(machine.area, before.1);
+    }
+    outcome
+}
+
+fn a_drawn_history(seed: u64, longest: u64, seen: &mut BTreeMap<(u64, u64), usize>) {
+    let mut random = Random::new(seed);
+    let mut world = World::start(FIRST).expect("a first number");
+    let mut machine = Machine::start(FIRST);
+    for _ in 0..CALLS {
+        let (caller, call) = Drawer { random: &mut random, world: &world, longest }.turn();
+        let mut after = world.clone();
+        after.call(caller, &call);
+        // A history in which nobody can call, or much is lost at once, says little.
+        let live = |w: &World, kind| w.objects.values().filter(|object| object.kind() == kind).count();
+        if live(&after, Kind::Thread) == 0 || after.objects.len() + 4 < world.objects.len() {
+            continue;
+        }
+        let outcome = same(&mut machine, &mut world, caller, &call);
+        *seen.entry((call.number(), outcome.answer)).or_insert(0) += 1;
+    }
+}
+
+#[test]
+fn drawn_histories() {
+    let mut seen = BTreeMap::new();
+    for seed in 0..60 {
+        a_drawn_history(seed, if seed % 2 == 0 { 16_256 } else { 600 }, &mut seen);
+    }
+    for call in 1..=16 {
+        assert!(seen.contains_key(&(call, GRANTED)), "call {} was never granted: {:?}", call, seen);
+    }
+}
+
+#[test]
+fn steered_histories() {
+    let mut random = Random::new(77);
+    let mut seen = Default::default();
+    for _ in 0..40 {
+        let history = steered(&mut random, "steered", FIRST, 40, &mut seen);
+        replay_history(history.first, history.turns.iter().map(|turn| (turn.caller, &turn.call)));
+    }
+}
+
+#[test]
+fn short_histories_made_by_hand() {
+    for history in histories::by_hand() {
+        replay_history(history.first, history.turns.iter().map(|turn| (turn.caller, &turn.call)));
+    }
+}
+
+fn replay_history<'a>(first: u64, turns: impl Iterator<Item = (u64, &'a Call)>) {
+    let mut world = World::start(first).expect("a first number");
+    let mut machine = Machine::start(first);
+    for (caller, call) in turns {
+        same(&mut machine, &mut world, caller, call);
+    }
+}
+
+/// The commands of crates/book_verdicts, with the verdict taken from answer 1 of a call by nobody.
+#[test]
+fn verdicts_on_books() {
+    let path = concat!(env!("CARGO_MANIFEST_DIR"), "/../../crates/book_verdicts/stdin");
+    let commands = std::fs::read(path).expect("the commands for the verdicts on books");
+    let expected = script::replay(&commands).expect("well-formed commands");
+    let mut book = vec![0; BOOK_LEN];
+    let mut verdicts = Vec::new();
+    let mut rest = &commands[..];
+    while let Some((letter, after)) = rest.split_first() {
+        rest = after;
+        match letter {
+            b'Z' => book.fill(0),
+            b'V' => verdicts.push(passes(&book)),
+            _ => {
+                let (write, after) = rest.split_at(13);
+                rest = after;
+                let at = u32::from_le_bytes([write[0], write[1], write[2], write[3]]) as usize;
+                let width = usize::from(write[4]);
+                book[at..at + width].copy_from_slice(&write[5..5 + width]);
+            }
+        }
+    }
+    assert_eq!(verdicts, expected);
+}
+
+fn passes(book: &[u8]) -> bool {
+    let (mut copy, mut area, mut value) = (book.to_vec(), vec![0; AREA_LEN], 0);
+    bytes::create_category(&mut copy, &mut area, 0, &mut value) != 1
+}
