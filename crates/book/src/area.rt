@@ -1,7 +1,7 @@
 // The data area's bytes.
 ghost use mathlib.Core.Path.{_≡_};
 ghost use Prim.Native.Nat.{_+_, _≤_, _<_};
-ghost use lib.ListN.{length};
+ghost use lib.ListN.{length, replicate};
 ghost use lib.Seq.{sets};
 ghost use Rattle.tables.specs.Layout.{blockCount};
 ghost use Rattle.book.specs.Enact.{areaSize};
@@ -29,6 +29,17 @@ pub fn clear_run(area: &mut [u8], from: usize, to: usize)
 {
     let mut i = from;
     while i < to {
+        area[i] = 0;
+        i += 1;
+    }
+}
+
+// Sets every byte to zero, of the data area or of an output.
+pub fn clear_all(area: &mut [u8])
+    ensures { λ _. ⌜ now (area .exit) ≡ replicate (length (now (area .entry))) 0 ⌝ }
+{
+    let mut i: usize = 0;
+    while i < area.len() {
         area[i] = 0;
         i += 1;
     }

@@ -4,10 +4,9 @@ ghost use Prim.Native.Nat.{_<_};
 ghost use lib.ListN.{length};
 ghost use Rattle.tables.specs.Layout.{view, size, rowCount, linkCount, blockCount};
 ghost use Rattle.book.specs.Enact.{areaSize, enactView, enactArea};
-ghost use Rattle.book.specs.Resize.{blockCleared};
 ghost use Rattle.book.specs.Cut.{cutAt, Entry, Cutting, LinkCut, Linked, Ended, Unlinked, endMarked, heldMarked, rowFreed, rowsFreed, rowsSwept, Blocked, blockFreed, blocksSwept, blockSwept, areaSwept};
 use super::alter::move_on;
-use super::area::clear_run;
+use super::area::clear_block;
 use super::kinds::CONTAINER;
 use super::kinds::FREE;
 use super::numbers::index;
@@ -26,8 +25,6 @@ use tables::get64;
 use tables::put8;
 use tables::put16;
 use tables::root;
-
-const BLOCK: usize = 64;
 
 // ---- links
 
@@ -113,15 +110,6 @@ fn sweep_rows(b: &mut [u8])
 }
 
 // ---- blocks
-
-// Sets block i of the data area to zero.
-fn clear_block(area: &mut [u8], i: usize)
-    requires { ⌜ (length (now area) ≡ areaSize) × (i < blockCount) ⌝ }
-    ensures { λ _. ⌜ now (area .exit) ≡ blockCleared i (now (area .entry)) ⌝ }
-{
-    let from = BLOCK * i;
-    clear_run(area, from, from + BLOCK);
-}
 
 // Frees block i, and sets it to zero, if its row is free.
 fn drop_block(b: &mut [u8], area: &mut [u8], i: usize)

@@ -151,14 +151,15 @@ pub fn closure_into(b: &[u8], r: usize, out: &mut [u8])
 
 // ---- by id
 
-fn has_id(b: &[u8], id: u64, r: usize) -> bool
+// Whether row r is live and has this id. Its id is looked at first, since it is seldom the one.
+pub fn has_id(b: &[u8], id: u64, r: usize) -> bool
     requires { ⌜ (length (now b) ≡ size) × (r < rowCount) ⌝ }
     ensures { λ t. ⌜ t ≡ hasId (view (now (b .entry))) id r ⌝ }
 {
-    if get8(b, KIND, r) == FREE {
+    if get64(b, ID, r) != id {
         return false;
     }
-    get64(b, ID, r) == id
+    get8(b, KIND, r) != FREE
 }
 
 // The lowest live row that has the id.

@@ -4,19 +4,20 @@ ghost use mathlib.Core.Bool.{true, not};
 ghost use Prim.Native.Nat.{_+_, _%_, _<_, _≤_};
 ghost use lib.ListN.{length, replicate};
 ghost use Rattle.tables.specs.Layout.{size, view, rowCount};
-ghost use Rattle.book.specs.Book.{idOf, labelOf, clearanceOf, hasId};
+ghost use Rattle.book.specs.Book.{idOf, labelOf, hasId};
 ghost use Rattle.book.specs.Test.{every, rangeN, rangeB, newB, idB, clearB, labelB, rowB, rowsB};
 ghost use Rattle.book.specs.Marks.{markCount, Marked};
+use super::find::has_id;
 use super::kinds::CONTAINER;
 use super::kinds::FREE;
 use super::kinds::MAX_MASK;
 use super::kinds::SEGMENT;
 use super::kinds::thread_or_gate;
 use super::numbers::wide;
-use labels::Label;
+use labels::Rule;
 use labels::WORDS;
-use labels::compare::flows;
-use labels::form::well_formed;
+use labels::compare::holds;
+use labels::form::formed;
 use tables::CLEAR_DEFAULT;
 use tables::CLEAR_WORDS;
 use tables::FIXED;
@@ -81,17 +82,6 @@ fn range_ok(b: &[u8], r: usize) -> bool
     )
 }
 
-// Whether row r is live and has this id. Its id is looked at first, since it is seldom the one.
-fn has_id(b: &[u8], id: u64, r: usize) -> bool
-    requires { ⌜ (length (now b) ≡ size) × (r < rowCount) ⌝ }
-    ensures { λ t. ⌜ t ≡ hasId (view (now (b .entry))) id r ⌝ }
-{
-    if get64(b, ID, r) != id {
-        return false;
-    }
-    get8(b, KIND, r) != FREE
-}
-
 // Whether no live row below n has this id.
 pub fn id_absent(b: &[u8], n: usize, id: u64) -> bool
     requires { ⌜ (length (now b) ≡ size) × (n ≤ rowCount) ⌝ }
@@ -140,34 +130,20 @@ fn id_ok(b: &[u8], r: usize, marks: &mut [u8; MARKS]) -> bool
     id_new(b, r, id, marks)
 }
 
-fn label_at(b: &[u8], r: usize) -> Label
-    requires { ⌜ (length (now b) ≡ size) × (r < rowCount) ⌝ }
-    ensures { λ l. ⌜ l ≡ labelOf (view (now (b .entry))) r ⌝ }
-{
-    let default = wide(get8(b, LABEL_DEFAULT, r));
-    let words = get_words(b, LABEL_WORDS, r * WORDS);
-    Label { default, words }
-}
+// Labels stay in the slices that they are read into: a Label by value would be copied, and this test meets every label of the book.
 
-fn clearance_at(b: &[u8], r: usize) -> Label
-    requires { ⌜ (length (now b) ≡ size) × (r < rowCount) ⌝ }
-    ensures { λ l. ⌜ l ≡ clearanceOf (view (now (b .entry))) r ⌝ }
-{
-    let default = wide(get8(b, CLEAR_DEFAULT, r));
-    let words = get_words(b, CLEAR_WORDS, r * WORDS);
-    Label { default, words }
-}
-
-// The clearance of the row with this label.
-fn clear_ok(b: &[u8], r: usize, label: Label) -> bool
-    requires { ⌜ (length (now b) ≡ size) × (r < rowCount) × (label ≡ labelOf (view (now b)) r) ⌝ }
+// The clearance of row r, whose label has this default and these words.
+fn clear_ok(b: &[u8], r: usize, d: u64, words: &[u64]) -> bool
+    requires { ⌜ (length (now b) ≡ size) × (r < rowCount) × (d ≡ (labelOf (view (now b)) r) .default) × (now words ≡ (labelOf (view (now b)) r) .words) ⌝ }
     ensures { λ t. ⌜ t ≡ clearB (view (now (b .entry))) r ⌝ }
 {
-    let clearance = clearance_at(b, r);
-    if !well_formed(clearance, next(b), false) {
+    let most = wide(get8(b, CLEAR_DEFAULT, r));
+    let cleared = get_words(b, CLEAR_WORDS, r * WORDS);
+    if !formed(next(b), false, most, &cleared) {
         return false;
     }
-    flows(label, clearance)
+    let none = [0u64; 0];
+    holds(Rule::Flows, d, words, most, &cleared, 0, &none)
 }
 
 fn label_ok(b: &[u8], r: usize) -> bool
@@ -175,15 +151,16 @@ fn label_ok(b: &[u8], r: usize) -> bool
     ensures { λ t. ⌜ t ≡ labelB (view (now (b .entry))) r ⌝ }
 {
     let code = get8(b, KIND, r);
-    let label = label_at(b, r);
+    let d = wide(get8(b, LABEL_DEFAULT, r));
+    let words = get_words(b, LABEL_WORDS, r * WORDS);
     let cleared = thread_or_gate(code);
-    if !well_formed(label, next(b), cleared) {
+    if !formed(next(b), cleared, d, &words) {
         return false;
     }
     if !cleared {
         return true;
     }
-    clear_ok(b, r, label)
+    clear_ok(b, r, d, &words)
 }
 
 fn row_ok(b: &[u8], r: usize, marks: &mut [u8; MARKS]) -> bool

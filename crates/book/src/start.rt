@@ -2,11 +2,12 @@
 ghost use mathlib.Core.Path.{_≡_};
 ghost use mathlib.Core.Bool.{true};
 ghost use Prim.Native.Nat.{_<_};
-ghost use lib.ListN.{length, replicate};
+ghost use lib.ListN.{length};
 ghost use Rattle.rules.specs.Kernel.{startable, lastNumber};
 ghost use Rattle.tables.specs.Layout.{size, view};
 ghost use Rattle.book.specs.Enact.{areaSize, startView, startArea};
 ghost use Rattle.book.specs.Make.{rootRow, threadRow, rootMade, threadMade};
+use super::area::clear_all;
 use super::kinds::CONTAINER;
 use super::kinds::THREAD;
 use super::make::NewRow;
@@ -18,16 +19,6 @@ use tables::ROOT;
 use tables::TEXT_SIZE;
 use tables::clear;
 use tables::put64;
-
-fn clear_area(area: &mut [u8])
-    ensures { λ _. ⌜ now (area .exit) ≡ replicate (length (now (area .entry))) 0 ⌝ }
-{
-    let mut i: usize = 0;
-    while i < area.len() {
-        area[i] = 0;
-        i += 1;
-    }
-}
 
 // The root has every unit and forbids nothing.
 fn root_row() -> NewRow
@@ -84,7 +75,7 @@ pub fn start(b: &mut [u8], area: &mut [u8], first: u64)
     ensures { λ _. ⌜ view (now (b .exit)) ≡ startView first ⌝ }
     ensures { λ _. ⌜ now (area .exit) ≡ startArea ⌝ }
 {
-    clear_area(area);
+    clear_all(area);
     make_root(b, first);
     make_thread(b, first + 1);
 }

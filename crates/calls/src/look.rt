@@ -3,7 +3,7 @@ ghost use mathlib.Core.Path.{_≡_};
 ghost use mathlib.Core.Bool.{cond};
 ghost use mathlib.Core.List.{[], _∷_};
 ghost use Prim.Native.Nat.{_+_, _*_, _<_};
-ghost use lib.ListN.{length, replicate};
+ghost use lib.ListN.{length};
 ghost use lib.Seq.{sets};
 ghost use Rattle.labels.specs.Core.{wordCount};
 ghost use Rattle.rules.specs.Kernel.{look, lookSize};
@@ -17,6 +17,7 @@ use super::Judged;
 use super::begin::begin;
 use book::Found;
 use book::alter::move_on;
+use book::area::clear_all;
 use book::find::Entry;
 use book::find::container_of;
 use book::find::description_into;
@@ -90,22 +91,12 @@ fn shown(kind: u8, mine: Label, theirs: Label) -> bool
     may_read(mine, theirs)
 }
 
-fn clear(out: &mut [u8])
-    ensures { λ _. ⌜ now (out .exit) ≡ replicate (length (now (out .entry))) 0 ⌝ }
-{
-    let mut i: usize = 0;
-    while i < out.len() {
-        out[i] = 0;
-        i += 1;
-    }
-}
-
 // Zeros in place of a label.
 fn put_hidden(out: &mut [u8], kind: u8)
     requires { ⌜ length (now out) ≡ 8 + wordCount * 8 ⌝ }
     ensures { λ _. ⌜ now (out .exit) ≡ hiddenBytes kind ⌝ }
 {
-    clear(out);
+    clear_all(out);
     out[0] = kind;
 }
 

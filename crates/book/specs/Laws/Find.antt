@@ -1,7 +1,7 @@
 -- Lookups: as the code makes them, and against the world.
 use Prim.Native.Nat.{ℕ, _+_, _-_, _<_}
 use native.Mathlib.Omega.{arith}
-use mathlib.Core.Bool.{Bool, true, false, not, cond, _&&_}
+use mathlib.Core.Bool.{Bool, true, false, cond, _&&_}
 use mathlib.Core.Path.{_≡_, refl, sym, _∙_, ap, ap₂, subst}
 use mathlib.Core.List.{List}
 use lib.Dec.{eqb}
@@ -15,7 +15,7 @@ use Rattle.rules.specs.Laws.Kinds.{nothing-no-container}
 use Rattle.tables.specs.Layout.{View, rowCount, linkCount}
 use Rattle.book.specs.declared.Found.the-variants.{At, Nothing}
 use Rattle.book.specs.declared.find.Entry.the-variants as place
-use Rattle.book.specs.Book.{idOf, codeOf, labelOf, markOf, fromOf, toOf, hasId, rowOf, objectAt, worldOf}
+use Rattle.book.specs.Book.{idOf, codeOf, labelOf, markOf, fromOf, toOf, rowOf, objectAt, worldOf}
 use Rattle.book.specs.Sound.{Live, On}
 use Rattle.book.specs.Placed.{Placed}
 use Rattle.book.specs.Find.{rowOfKind, threadRow, containerRow, leads, linkBetween, entryPlace}
@@ -23,17 +23,6 @@ use Rattle.book.specs.Laws.First.{no-place, same-place, on-at, on-nothin
 use Rattle.book.specs.Laws.Tie.{row-found, row-is, obj-found, obj-missing, object-thread, object-container, object-label, linked-is, rows-linked, linked-rows}
 
 -- ---- as the code tests
-
--- A free row has no id,
-pub id-dead : (v : View) (o r k : ℕ) → k ≡ codeOf v r → k ≡ 0 → false ≡ hasId v o r
-unfolding both
-id-dead v o r k e q = sym (ap (λ (t : Bool). both (not t) (eqb (idOf v r) o)) (eq-eqb (codeOf v r) 0 (sym e ∙ q)))
-
--- a live one has its own.
-pub id-live : (v : View) (o r k i : ℕ) → k ≡ codeOf v r → (k ≡ 0 → ⊥) → i ≡ idOf v r → eqb i o ≡ hasId v o r
-unfolding both
-id-live v o r k i e ne f =
-    ap (λ (n : ℕ). eqb n o) f ∙ sym (ap (λ (t : Bool). both (not t) (eqb (idOf v r) o)) (ne-eqb (codeOf v r) 0 (λ z. ne (e ∙ z))))
 
 -- A link that starts elsewhere does not lead from c,
 pub leads-off : (v : View) (c o l m : ℕ) → m ≡ markOf v l → (m ≡ c + 1 → ⊥) → false ≡ leads v c o l

@@ -28,7 +28,7 @@ use Rattle.book.specs.Laws.Room.{spare-row-room, spare-link-room}
 use Rattle.book.specs.Laws.Worlds.{world-ext}
 use Rattle.book.specs.Laws.Shapes.{put-shape}
 use Rattle.book.specs.Laws.Alter.{moved-row, moved-object, moved-linked, moved-root, moved-next, moved-shape, moved-placed}
-use Rattle.book.specs.Laws.Places.{row-low, link-low}
+use Rattle.book.specs.Laws.Places.{free-row-low, link-low}
 use Rattle.book.specs.Laws.Filled.{Fresh, filled-id-other, filled-code-other, filled-fixed-other, filled-len-other, filled-object-other, filled-id, filled-code, filled-fixed, filled-len, filled-object, filled-shape}
 
 -- What is found is free.
@@ -372,7 +372,7 @@ module _ (v : View) (area : List ℕ) (z : Shape v) (s : Sound v) (c : ℕ) (a :
 
   long : Shape filled
   unfolding filled
-  long = filled-shape v z r (nextOf v) x (row-low v r row)
+  long = filled-shape v z r (nextOf v) x (free-row-low v r row)
 
   spot : markOf filled l ≡ 0
   unfolding filled rowFilled relabelled
@@ -380,31 +380,31 @@ module _ (v : View) (area : List ℕ) (z : Shape v) (s : Sound v) (c : ℕ) (a :
 
   in-order : Placed filled
   unfolding filled
-  in-order = filled-placed v z (placed v s) r (nextOf v) x f (row-low v r row) (row-free v r row) number-new (kind-most (x .kind))
+  in-order = filled-placed v z (placed v s) r (nextOf v) x f (free-row-low v r row) (row-free v r row) number-new (kind-most (x .kind))
 
   here : Live filled r
   unfolding filled
-  here = filled-live v z (placed v s) r (nextOf v) x f (row-low v r row) (row-free v r row) number-new
+  here = filled-live v z (placed v s) r (nextOf v) x f (free-row-low v r row) (row-free v r row) number-new
 
   there : Live filled c
   unfolding filled
-  there = live-still v z (placed v s) r (nextOf v) x f (row-low v r row) (row-free v r row) number-new c a
+  there = live-still v z (placed v s) r (nextOf v) x f (free-row-low v r row) (row-free v r row) number-new c a
 
   objects : (o : ℕ) → (worldOf filled area) .obj o ≡ put (nextOf v) x ((worldOf v area) .obj) o
   unfolding filled
-  objects = filled-obj v z (placed v s) r (nextOf v) x f (row-low v r row) (row-free v r row) number-new area
+  objects = filled-obj v z (placed v s) r (nextOf v) x f (free-row-low v r row) (row-free v r row) number-new area
 
   links : (d o : ℕ) → (worldOf filled area) .linked d o ≡ (worldOf v area) .linked d o
   unfolding filled
-  links = filled-linked v z (placed v s) r (nextOf v) x f (row-low v r row) (row-free v r row) number-new area
+  links = filled-linked v z (placed v s) r (nextOf v) x f (free-row-low v r row) (row-free v r row) number-new area
 
   id-c : idOf filled c ≡ idOf v c
   unfolding filled
-  id-c = id-still v z (placed v s) r (nextOf v) x f (row-low v r row) (row-free v r row) number-new c a
+  id-c = id-still v z (placed v s) r (nextOf v) x f (free-row-low v r row) (row-free v r row) number-new c a
 
   id-r : idOf filled r ≡ nextOf v
   unfolding filled
-  id-r = filled-id v z r (nextOf v) x (row-low v r row)
+  id-r = filled-id v z r (nextOf v) x (free-row-low v r row)
 
   -- no link leads to the new row yet
   unlinked : (m : ℕ) → On filled m → fromOf filled m ≡ c → toOf filled m ≡ r → ⊥

@@ -13,9 +13,9 @@ use Rattle.book.specs.Make.{placedIn, placeFor, createdIn, linkedIn}
 use Rattle.book.specs.Laws.First.{first-low, on-at}
 
 -- What is found is a row,
-pub row-low : (v : View) (r : ℕ) → freeRow v ≡ At r → r < rowCount
+pub free-row-low : (v : View) (r : ℕ) → freeRow v ≡ At r → r < rowCount
 unfolding freeRow
-row-low v r e = first-low rowCount (λ i. eqb (codeOf v i) 0) r e
+free-row-low v r e = first-low rowCount (λ i. eqb (codeOf v i) 0) r e
 
 -- and a link.
 pub link-low : (v : View) (l : ℕ) → freeLink v ≡ At l → l < linkCount

@@ -3,13 +3,14 @@ use Prim.Native.Nat.{ℕ, _≤_}
 use mathlib.Core.Bool.{Bool, true, false, cond}
 use mathlib.Core.Logic.{_↔_, _⊎_, inl, inr}
 use mathlib.Core.Path.{_≡_, refl}
+use mathlib.Core.List.{[]}
 use native.Mathlib.Omega.{arith}
 use lib.Dec.{eqb, leb}
 use borrow.Author.Tests.{eq-eqb, ne-eqb, eqb-true, leb-true, leb-false, le-leb}
 use Rattle.labels.specs.declared.Label.{Label}
 use Rattle.labels.specs.declared.Rule.{Rule}
 use Rattle.labels.specs.declared.Rule.the-variants.{Flows, FlowsHigh, FloorFlows, FlowsJoin, FlowsJoinHigh}
-use Rattle.labels.specs.Core.{star, at, highOf, joinOf, floorOf, allowed, compareB, unread, flows, flowsHigh, mayRead, mayWrite}
+use Rattle.labels.specs.Core.{star, at, highOf, joinOf, floorOf, allowed, holdsB, compareB, unread, flows, flowsHigh, mayRead, mayWrite}
 use Rattle.labels.specs.Core.Named.{holds-means}
 
 -- ---- what each comparison says
@@ -185,3 +186,8 @@ floor-flows x y z p q =
     let a = floor-below-join (at x c) (at y c) in
     let b = join-least (at x c) (at y c) (at z c) (flows-means x z unread .0 p c) (flows-means y z unread .0 q c) in
     omega arith)
+
+-- Flows, by defaults and words: a comparison of two lends an empty third.
+pub flows-by-words : (x y : Label) → flows x y ≡ holdsB (allowed Flows) (x .default) (x .words) (y .default) (y .words) 0 []
+unfolding compareB
+flows-by-words x y = refl

@@ -1,22 +1,25 @@
-use Rattle.tables.specs.Layout.{view}
-use Rattle.book.specs.Laws.Find.{id-dead, id-live}
 use borrow.Author.Needs.{needs}
+use mathlib.Core.Path.{sym, _∙_}
+use Rattle.tables.specs.Layout.{view}
+use Rattle.book.specs.Laws.Judged.{id-other, id-same}
 use Rattle.book.proofs.find.has_id.Statement.{statement}
 use Rattle.book.proofs.find.has_id.Tie as tie
-
-get8-requires : tie.Need-get8-requires
-get8-requires c κs = search needs
-
-returns : tie.Need-returns
-returns c =
-    id-dead (view (c .before .before .before .args .b .now)) (c .before .before .before .args .id) (c .before .before .before .args .r) (c .before .get8 .result) (c .before .get8 .ensures) (c .if1 .taken)
 
 get64-requires : tie.Need-get64-requires
 get64-requires c κs = search needs
 
+returns : tie.Need-returns
+returns c =
+    let s = c .before .before .before in
+    sym (id-other (view (s .args .b .now)) (s .args .id) (s .args .r) (λ e. c .if1 .taken (c .before .get64 .ensures ∙ e)))
+
+get8-requires : tie.Need-get8-requires
+get8-requires c κs = search needs
+
 returns-2 : tie.Need-returns-2
 returns-2 c =
-    id-live (view (c .before .before .before .before .args .b .now)) (c .before .before .before .before .args .id) (c .before .before .before .before .args .r) (c .before .before .get8 .result) (c .get64 .result) (c .before .before .get8 .ensures) (c .before .if1 .left) (c .get64 .ensures)
+    let s = c .before .before .before .before in
+    rw (id-same (view (s .args .b .now)) (s .args .id) (s .args .r) (sym (c .before .before .get64 .ensures) ∙ c .before .if1 .left), ← c .get8 .ensures)
 
 pub has-id-spec : {M : Type 1} → statement M
-has-id-spec = tie.close (tie.spec get8-requires returns get64-requires returns-2)
+has-id-spec = tie.close (tie.spec get64-requires returns get8-requires returns-2)

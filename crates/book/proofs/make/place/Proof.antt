@@ -4,7 +4,7 @@ use mathlib.Core.Path.{_≡_, sym, ap, _∙_}
 use Rattle.tables.specs.Layout.{view}
 use Rattle.book.specs.Enact.{rowFilled, linkFilled}
 use Rattle.book.specs.Make.{objectOf}
-use Rattle.book.specs.Laws.Places.{row-low, link-low, no-row-free, no-link-free, both-free}
+use Rattle.book.specs.Laws.Places.{free-row-low, link-low, no-row-free, no-link-free, both-free}
 use borrow.Author.Needs.{needs}
 use Rattle.book.proofs.make.place.Statement.{statement}
 use Rattle.book.proofs.make.place.Tie as tie
@@ -58,7 +58,7 @@ fill-row-requires c κs =
     let r = c .before .before .before .before .before .before .before .before .before in
     let f = r .before .before in
     let s = f .before .before .before .before .before in
-    let row = row-low (view (s .args .b .now)) (r .r .given .0 .0) (sym (f .free-row .ensures) ∙ r .r .given .1) in
+    let row = free-row-low (view (s .args .b .now)) (r .r .given .0 .0) (sym (f .free-row .ensures) ∙ r .r .given .1) in
     record { whole = s .pre .going .whole; low = row; handed = s .pre .handed }
 
 fill-link-requires : tie.Need-fill-link-requires
@@ -69,7 +69,7 @@ fill-link-requires c κs =
     let f = r .before .before in
     let s = f .before .before .before .before .before in
     let v = view (s .args .b .now) in
-    let row = row-low v (r .r .given .0 .0) (sym (f .free-row .ensures) ∙ r .r .given .1) in
+    let row = free-row-low v (r .r .given .0 .0) (sym (f .free-row .ensures) ∙ r .r .given .1) in
     let link = link-low v (l .l .given .0 .0) (sym (k .free-link .ensures) ∙ l .l .given .1) in
     (omega (arith, s .pre .going .whole), link, s .pre .low, row)
 

@@ -9,8 +9,8 @@ use borrow.Author.Needs.{needs}
 use Rattle.book.proofs.start.start.Statement.{statement}
 use Rattle.book.proofs.start.start.Tie as tie
 
-clear-area-requires : tie.Need-clear-area-requires
-clear-area-requires c κs = search needs
+clear-all-requires : tie.Need-clear-all-requires
+clear-all-requires c κs = search needs
 
 make-root-requires : tie.Need-make-root-requires
 make-root-requires c κs =
@@ -40,14 +40,14 @@ returns c =
     let s = k .before .before .before .before in
     let f = s .args .first in (
       t .make-thread .ensures ∙ ap (threadMade (f + 1)) (r .make-root .ensures) ∙ start-made f,
-      k .clear-area .ensures ∙ ap (λ (n : ℕ). replicate n 0) (s .pre .1),
+      k .clear-all .ensures ∙ ap (λ (n : ℕ). replicate n 0) (s .pre .1),
     )
 
 pub start-spec : {M : Type 1} → statement M
 start-spec =
     tie.close
     (tie.spec
-    clear-area-requires
+    clear-all-requires
     make-root-requires
     add-make-thread
     make-thread-requires

@@ -4,8 +4,8 @@ use Rattle.calls.specs.Laws.LookBytes.{hidden-put}
 use Rattle.calls.proofs.look.put_hidden.Statement.{statement}
 use Rattle.calls.proofs.look.put_hidden.Tie as tie
 
-clear-requires : tie.Need-clear-requires
-clear-requires c κs = search needs
+clear-all-requires : tie.Need-clear-all-requires
+clear-all-requires c κs = search needs
 
 slice-write-out : tie.Need-slice-write-out
 slice-write-out c = omega (arith, c .before .before .before .before .before .pre)
@@ -14,13 +14,13 @@ same-length : tie.Need-same-length
 same-length c = search needs
 
 returns : tie.Need-returns
-returns c = hidden-put (c .before .before .clear .last .0) _ _ (c .before .before .before .before .before .pre) (c .before .before .clear .ensures)
+returns c = hidden-put (c .before .before .clear-all .last .0) _ _ (c .before .before .before .before .before .pre) (c .before .before .clear-all .ensures)
 
 pub put-hidden-spec : {M : Type 1} → statement M
 put-hidden-spec =
     tie.close
     (tie.spec
-    clear-requires
+    clear-all-requires
     slice-write-out
     same-length
     returns)

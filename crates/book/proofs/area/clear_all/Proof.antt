@@ -5,8 +5,8 @@ use borrow.Author.Count.{below-more}
 use lib.ListN.{length, getD, replicate, length-set}
 use lib.Seq.{getD-set-same, getD-set-other}
 use Rattle.book.specs.Laws.Start.{all-zero}
-use Rattle.book.proofs.start.clear_area.Statement.{statement}
-use Rattle.book.proofs.start.clear_area.Tie as tie
+use Rattle.book.proofs.area.clear_all.Statement.{statement}
+use Rattle.book.proofs.area.clear_all.Tie as tie
 
 abbrev Inv-loop : tie.InvT-loop
 Inv-loop area₀ i₀ area i = (i ≤ length area) × (length area ≡ length area₀) × ((k : ℕ) → k < i → getD area k 0 ≡ 0)
@@ -44,8 +44,8 @@ returns c =
     let l = c .before .loop in
     all-zero (l .area) (λ k h. l .inv .2 k (omega arith)) ∙ ap (λ (n : ℕ). replicate n 0) (l .inv .1)
 
-pub clear-area-spec : {M : Type 1} → statement M
-clear-area-spec =
+pub clear-all-spec : {M : Type 1} → statement M
+clear-all-spec =
     tie.close
     (tie.spec
     Inv-loop
