@@ -46,6 +46,11 @@ impl Guarded {
         around.all(|place| self.buffer[place] == pattern(place))
     }
 
+    /// Whether anything stands around the bytes.
+    pub fn has_guards(&self) -> bool {
+        self.guard > 0
+    }
+
     /// The same with one byte changed just before or just after what is lent.
     pub fn overrun(&self, before: bool) -> Guarded {
         let mut other = self.clone();
