@@ -1,4 +1,4 @@
--- Every live object is reached from the root, so no quota is above the root's; and blocks are never wanting. Assumes nothing.
+-- Every live object is reached from the root, so no quota is above the root's; and blocks are never wanting.
 use mathlib.Core.Path.{_≡_, refl, sym, ap, subst, _∙_}
 use mathlib.Core.Bool.{Bool, true, false, not}
 use mathlib.Core.Logic.{⊎-elim, _⊎_, inl, inr}

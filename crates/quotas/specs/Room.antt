@@ -1,4 +1,4 @@
--- Room is never wanting elsewhere: where a container has spare, a row and a link are free. Assumes nothing.
+-- Room is never wanting elsewhere: where a container has spare, a row and a link are free.
 use mathlib.Core.Path.{_≡_, refl, sym, ap, subst, _∙_}
 use mathlib.Core.Bool.{Bool, true, false, not}
 use mathlib.Core.Logic.{⊎-elim}

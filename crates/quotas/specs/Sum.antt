@@ -1,4 +1,4 @@
--- Sums of a function over the indices below n. Assumes nothing.
+-- Sums of a function over the indices below n.
 use mathlib.Core.Path.{_≡_, refl, sym, ap, ap₂, subst, _∙_}
 use mathlib.Core.Bool.{Bool, true, false, not, cond}
 use mathlib.Core.Logic.{⊎-elim}

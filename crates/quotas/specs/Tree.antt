@@ -1,4 +1,4 @@
--- A book seen as functions of row and link numbers, and what its quotas add up to. Assumes nothing.
+-- A book seen as functions of row and link numbers, and what its quotas add up to.
 use mathlib.Core.Path.{_≡_, refl, sym, ap, subst, _∙_}
 use mathlib.Core.Bool.{Bool, true, false, not}
 use mathlib.Core.Logic.{⊎-elim}

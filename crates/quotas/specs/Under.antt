@@ -1,4 +1,4 @@
--- The tree of a container: what a way down the links leads to. Assumes nothing.
+-- The tree of a container: what a way down the links leads to.
 use mathlib.Core.Path.{_≡_, refl, sym, ap, subst, _∙_}
 use mathlib.Core.Bool.{Bool, true, false, not}
 use mathlib.Core.Logic.{⊎-elim, _⊎_, inl, inr}

@@ -1,5 +1,5 @@
 -- The book's bytes: nineteen tables of numbers, one after the other, with no byte between them (docs/BOOK.md). A number takes as
--- many bytes as its table is wide, the lowest first. The laws are in the modules below this one. Assumes nothing.
+-- many bytes as its table is wide, the lowest first. The laws are in the modules below this one.
 use mathlib.Core.Path.{_≡_}
 use mathlib.Core.Bool.{cond}
 use Prim.Native.Nat.{ℕ, zero, suc, _+_, _*_, _<_, _≤_}

@@ -1,4 +1,4 @@
--- What a read and a write of one number are to the tables, each law stated once over table, place, width and count. Assumes nothing.
+-- What a read and a write of one number are to the tables, each law stated once over table, place, width and count.
 use mathlib.Core.Path.{_≡_, refl, sym, ap, ap₂, _∙_, subst}
 use mathlib.Core.Logic.{_⊎_, inl, inr, ⊎-elim}
 use mathlib.Core.Bool.{cond}

@@ -1,4 +1,4 @@
--- Every byte is in exactly one field: two books with one view are one list. Assumes nothing.
+-- Every byte is in exactly one field: two books with one view are one list.
 use mathlib.Core.Path.{_≡_, sym, ap, _∙_}
 use mathlib.Core.Logic.{_⊎_, inl, inr, ⊎-elim}
 use Prim.Native.Nat.{ℕ, zero, suc, _+_, _*_, _<_, _≤_}

@@ -1,4 +1,4 @@
--- Numbers that stand in a row, written or read one by one. Assumes nothing.
+-- Numbers that stand in a row, written or read one by one.
 use mathlib.Core.Path.{_≡_, refl, sym, ap, _∙_}
 use mathlib.Core.Bool.{Bool, true, false, cond}
 use Prim.Native.Nat.{ℕ, zero, suc, _+_, _-_, _*_, _<_, _≤_}

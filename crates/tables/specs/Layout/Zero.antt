@@ -1,4 +1,4 @@
--- A book of zeros. Assumes nothing.
+-- A book of zeros.
 use mathlib.Core.Path.{_≡_, refl, ap₂}
 use Prim.Native.Nat.{ℕ, zero, suc, _+_}
 use native.Mathlib.Omega.{arith}
