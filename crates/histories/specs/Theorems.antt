@@ -8,7 +8,7 @@ use lib.ListN.{length, getD}
 use lib.Dec.{leb}
 use lib.IntN.{negsuc}
 use Rattle.quotas.specs.Sum.{Σ, when}
-use Rattle.rules.specs.Kernel.{World, Call, read, moveQuota, resize, isLive, isContainer, isSegment, units, holdOf, spareOf, call, after, answerOf, valueOf, outputOf, Verdict, refuse, grant, History, started, next, worldAfter, blockSize}
+use Rattle.rules.specs.Kernel.{World, Call, read, moveQuota, resize, isLive, isContainer, isSegment, units, holdOf, spareOf, call, after, answerOf, valueOf, Verdict, History, started, next, worldAfter, blockSize}
 use Rattle.rules.specs.Trees.{inTree}
 use Rattle.rules.specs.Written.{lastWritten}
 use Rattle.rules.specs.Ledger.{reckoned, spends, draws, needs, refusedEarlier, writer, Meanwhile}
@@ -28,6 +28,7 @@ use Rattle.calls.specs.Theorems.Kept.{verdict-is, world-after}
 use Rattle.calls.specs.Theorems.One.{one-outcome}
 use Rattle.histories.specs.Areas.{world, Called, After, begun, called}
 use Rattle.histories.specs.Demands as the
+use Rattle.histories.specs.Laws.Exports.{handed-out}
 use Rattle.histories.specs.Laws.Refused.{as-done, refusal}
 use Rattle.histories.specs.Laws.Spelled.{spelled, ruled}
 
@@ -71,12 +72,6 @@ pub one-history : the.OneHistory
 one-history h b₁ area₁ b₂ area₂ bytes₁ bytes₂ a a₂ =
     let (p, q) = one-by-one a a₂ in
     (view-only b₁ b₂ bytes₁ bytes₂ p (book-long b₁ area₁ (spelled h b₁ area₁ a .good)) (book-long b₂ area₂ (spelled h b₂ area₂ a₂ .good)), q)
-
--- what an empty output becomes is the rules' output
-handed-out : (v : Verdict) → outputLeft v [] ≡ outputOf v
-unfolding outputLeft outputOf
-handed-out (refuse k) = refl
-handed-out (grant v o h) = refl
 
 pub reads-show : the.ReadShows
 reads-show h b area a c d s k from count answer value b′ area′ part t granted =
