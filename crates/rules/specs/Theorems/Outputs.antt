@@ -27,7 +27,7 @@ unfolding lookBytes
 look-length t x r =
     simp length-append (let d = r .description-size in let e = rest (isThread (x .kind) && not (mayRead t (x .label))) in omega arith)
   where
-    rest : (b : Bool) → length (cond b (replicate (7 + wordCount * 8) 0) (1 ∷ (x .label) .default ∷ (replicate 5 0 ++ wordsBytes ((x .label) .words)))) ≡ 71
+    rest : (b : Bool) → length (cond b (replicate (7 + wordCount * 8) 0) (1 ∷ (x .label) .default ∷ (replicate 5 0 ++ wordsBytes ((x .label) .words)))) ≡ 7 + wordCount * 8
     rest true = refl
     rest false = simp length-append (let w = wordsBytes-length ((x .label) .words) in let e = r .label-words in omega arith)
 

@@ -1,4 +1,5 @@
 use borrow.Author.Needs.{needs}
+use Rattle.rules.specs.Kernel.{containerCode, rootQuota}
 use Rattle.book.proofs.start.root_row.Statement.{statement}
 use Rattle.book.proofs.start.root_row.Tie as tie
 
@@ -9,7 +10,7 @@ of-default-requires-2 : tie.Need-of-default-requires-2
 of-default-requires-2 c κs = search needs
 
 returns : tie.Need-returns
-returns c = λ i. record { kind = 4; mask = 0; quota = 256; entry = 0; label = c .before .of-default .ensures i; clearance = c .of-default2 .ensures i }
+returns c = λ i. record { kind = containerCode; mask = 0; quota = rootQuota; entry = 0; label = c .before .of-default .ensures i; clearance = c .of-default2 .ensures i }
 
 pub root-row-spec : {M : Type 1} → statement M
 root-row-spec = tie.close (tie.spec of-default-requires of-default-requires-2 returns)

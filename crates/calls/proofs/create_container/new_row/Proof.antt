@@ -1,4 +1,5 @@
 use borrow.Author.Needs.{needs}
+use Rattle.rules.specs.Kernel.{containerCode}
 use Rattle.calls.proofs.create_container.new_row.Statement.{statement}
 use Rattle.calls.proofs.create_container.new_row.Tie as tie
 
@@ -12,7 +13,7 @@ of-default-requires : tie.Need-of-default-requires
 of-default-requires c κs = search needs
 
 returns : tie.Need-returns
-returns c = λ i. record { kind = 4; mask = c .before .args .mask; quota = c .before .args .quota; entry = 0; label = c .before .args .label; clearance = c .of-default .ensures i }
+returns c = λ i. record { kind = containerCode; mask = c .before .args .mask; quota = c .before .args .quota; entry = 0; label = c .before .args .label; clearance = c .of-default .ensures i }
 
 pub new-row-spec : {M : Type 1} → statement M
 new-row-spec =

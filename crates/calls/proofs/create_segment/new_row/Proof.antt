@@ -1,4 +1,5 @@
 use borrow.Author.Needs.{needs}
+use Rattle.rules.specs.Kernel.{segmentCode}
 use Rattle.calls.proofs.create_segment.new_row.Statement.{statement}
 use Rattle.calls.proofs.create_segment.new_row.Tie as tie
 
@@ -9,7 +10,7 @@ of-default-requires : tie.Need-of-default-requires
 of-default-requires c κs = search needs
 
 returns : tie.Need-returns
-returns c = λ i. record { kind = 3; mask = 0; quota = c .before .args .quota; entry = 0; label = c .before .args .label; clearance = c .of-default .ensures i }
+returns c = λ i. record { kind = segmentCode; mask = 0; quota = c .before .args .quota; entry = 0; label = c .before .args .label; clearance = c .of-default .ensures i }
 
 pub new-row-spec : {M : Type 1} → statement M
 new-row-spec =
