@@ -20,6 +20,7 @@ use Rattle.tables.specs.Layout.{view}
 use Rattle.book.specs.Sound.{Sound}
 use Rattle.book.specs.Test.{areasB}
 use Rattle.calls.specs.Outcome.{outputLeft}
+use Rattle.calls.specs.Started.{Started}
 use Rattle.histories.specs.Areas.{Bytes, world, Called, After}
 
 -- ---- Demand 1
@@ -41,6 +42,12 @@ Demand1 =
     (b area : List ℕ) (c : ℕ) (x : Call) (out : List ℕ) (answer value : ℕ) (b′ area′ out′ : List ℕ) → Bytes b → Bytes b′
     → Called b area c x out answer value b′ area′ out′
     → (answer ≡ 0 → ⊥) → Refusal b area x out answer value b′ area′ out′
+
+-- Start too: "Any other f answers 4, a wrong area length 1 (checked first); both areas then stay as lent."
+abbrev pub StartRefuses : Type 0
+StartRefuses =
+    (b area : List ℕ) (f answer : ℕ) (b′ area′ : List ℕ) → Started b area f answer b′ area′
+    → (answer ≡ 0 → ⊥) → (oneOf answer (1 ∷ 4 ∷ []) ≡ true) × (b′ ≡ b) × (area′ ≡ area)
 
 -- ---- Demand 2
 

@@ -1,14 +1,15 @@
 -- The demands are met. Each statement stands in Demands.
 use Prim.Native.Nat.{ℕ, suc, _+_, _*_, _≤_, _<_}
 use native.Mathlib.Omega.{arith}
-use mathlib.Core.Bool.{true, false, cond}
+use mathlib.Core.Bool.{Bool, true, false, cond}
 use mathlib.Core.Path.{_≡_, refl, sym, ap, ap₂, subst, _∙_}
-use mathlib.Core.List.{List, []}
+use mathlib.Core.List.{List, [], _∷_}
 use lib.ListN.{length, getD}
 use lib.Dec.{leb}
 use lib.IntN.{negsuc}
 use Rattle.quotas.specs.Sum.{Σ, when}
-use Rattle.rules.specs.Kernel.{World, Call, read, moveQuota, resize, isLive, isContainer, isSegment, units, holdOf, spareOf, call, after, answerOf, valueOf, Verdict, History, started, next, worldAfter, blockSize}
+use Rattle.rules.specs.Kernel.{World, Call, read, moveQuota, resize, isLive, isContainer, isSegment, units, holdOf, spareOf, startable, call, after, answerOf, valueOf, Verdict, History, started, next, worldAfter, blockSize}
+use Rattle.rules.specs.Answers.{oneOf}
 use Rattle.rules.specs.Trees.{inTree}
 use Rattle.rules.specs.Written.{lastWritten}
 use Rattle.rules.specs.Ledger.{reckoned, spends, draws, needs, refusedEarlier, writer, Meanwhile}
@@ -23,6 +24,7 @@ use Rattle.tables.specs.Layout.{View, view}
 use Rattle.tables.specs.Layout.Only.{view-only}
 use Rattle.book.specs.Book.{worldOf}
 use Rattle.calls.specs.Outcome.{verdictOn, bookLeft, areaLeft, outputLeft}
+use Rattle.calls.specs.Started.{Started, lengthsRight, startAnswer}
 use Rattle.calls.specs.Laws.Prelude.{book-long, book-sound}
 use Rattle.calls.specs.Theorems.Kept.{verdict-is, world-after}
 use Rattle.calls.specs.Theorems.One.{one-outcome}
@@ -36,6 +38,21 @@ use Rattle.histories.specs.Laws.Spelled.{spelled, ruled}
 
 pub demand-1 : the.Demand1
 demand-1 b area c x out answer value b′ area′ out′ h h′ d refused = refusal b area c x out answer value b′ area′ out′ h h′ d refused
+
+start-number : (p q : Bool) → (_≡_ {A = ℕ} (cond p (cond q 0 4) 1) 0 → ⊥) → oneOf (cond p (cond q 0 4) 1) (1 ∷ 4 ∷ []) ≡ true
+unfolding oneOf
+start-number true true n = absurd (n refl)
+start-number true false n = refl
+start-number false q n = refl
+
+pub start-refuses : the.StartRefuses
+unfolding startAnswer
+start-refuses b area f answer b′ area′ s n =
+    let not-zero : startAnswer b area f ≡ 0 → ⊥ = λ z. n (s .answer ∙ z) in (
+      subst (λ (i : ℕ). oneOf i (1 ∷ 4 ∷ []) ≡ true) (sym (s .answer)) (start-number (lengthsRight b area) (startable f) not-zero),
+      s .book-kept not-zero,
+      s .area-kept not-zero,
+    )
 
 -- ---- Demand 2
 
