@@ -112,57 +112,15 @@ pub record Met : Type 0 where
   -- theorem 6: and it makes the spare of 103 smaller
   pub shrinks : reckoned (next crowding 101 fill) 103 < reckoned crowding 103
 
-pub is-container : isContainer ((worldAfter granting .obj 103) .kind) ≡ true
-unfolding granting grown morning room list one two tainted wordsFor lent zeros32 worldAfter start call after tests judge must opens entry make move access forbids fits spareOf useOf charged units answerOf leaves apply put linkIn under below stays kept edit goodArguments goodLabel goodText holds allHold flow reading writing floorFlow flowJoin flowJoinHigh containerOf segmentOf gateOf threadOf clearedAt overwrite resized orDefault kindCode isLive isThread isGate isSegment isContainer hasClearance blank nothing Σ when any both either leAt leBytes levelAt everyNamed holdsB compareB zerosB wordsB formedB insertW roomB wordsAt labelOf wordsBytes labelBytes
-is-container = refl
-
-pub is-segment : isSegment ((worldAfter granting .obj 104) .kind) ≡ true
-unfolding granting grown morning room list one two tainted wordsFor lent zeros32 worldAfter start call after tests judge must opens entry make move access forbids fits spareOf useOf charged units answerOf leaves apply put linkIn under below stays kept edit goodArguments goodLabel goodText holds allHold flow reading writing floorFlow flowJoin flowJoinHigh containerOf segmentOf gateOf threadOf clearedAt overwrite resized orDefault kindCode isLive isThread isGate isSegment isContainer hasClearance blank nothing Σ when any both either leAt leBytes levelAt everyNamed holdsB compareB zerosB wordsB formedB insertW roomB wordsAt labelOf wordsBytes labelBytes
-is-segment = refl
-
-pub quota-five : (worldAfter granting .obj 104) .quota ≡ 5
-unfolding granting grown morning room list one two tainted wordsFor lent zeros32 worldAfter start call after tests judge must opens entry make move access forbids fits spareOf useOf charged units answerOf leaves apply put linkIn under below stays kept edit goodArguments goodLabel goodText holds allHold flow reading writing floorFlow flowJoin flowJoinHigh containerOf segmentOf gateOf threadOf clearedAt overwrite resized orDefault kindCode isLive isThread isGate isSegment isContainer hasClearance blank nothing Σ when any both either leAt leBytes levelAt everyNamed holdsB compareB zerosB wordsB formedB insertW roomB wordsAt labelOf wordsBytes labelBytes
-quota-five = refl
-
-pub met : Met
-unfolding granting grown morning room list crowding fill reckoned granted grantedBy charge chargeBy lineIf lineOf refusedEarlier writer one two tainted wordsFor lent zeros32 worldAfter start call after tests judge must opens entry make move access forbids fits spareOf useOf charged units answerOf leaves apply put linkIn under below stays kept edit goodArguments goodLabel goodText holds allHold flow reading writing floorFlow flowJoin flowJoinHigh containerOf segmentOf gateOf threadOf clearedAt overwrite resized orDefault kindCode isLive isThread isGate isSegment isContainer hasClearance blank nothing Σ when any both either leAt leBytes levelAt everyNamed holdsB compareB zerosB wordsB formedB insertW roomB wordsAt labelOf wordsBytes labelBytes
-met =
-    record {
-      room = refl;
-      spare = refl;
-      neighbours = another 107 _ (another 107 _ (another 107 _ (another 107 _ nothingYet refl) refl) refl) refl;
-      neighbours-of-list = another 107 _ (another 107 _ (another 107 _ (another 107 _ nothingYet refl) refl) refl) refl;
-      passes = refl;
-      grows = refl;
-      shrinks = omega arith;
-    }
-
--- So the promise of theorem 9 is about this day: after the neighbour took all it could, the job's container still takes the 14 units, and its list still grows.
-pub still-granted : answerOf (call (worldAfter crowding) 101 fill) ≡ 0
-unfolding fill lineIf takesUnits askedOf unitsAsked orDefault
-still-granted =
-    room-is-kept granting started-well crowding 101 103 14 is-container (omega (arith, met .room)) (met .neighbours) fill refl refl (omega arith) (met .passes)
-
-pub still-grows : answerOf (call (worldAfter crowding) 101 (resize 103 104 200)) ≡ 0
-unfolding units
-still-grows =
-    growth-is-kept granting started-well crowding 101 104 200 is-segment (omega (arith, quota-five)) (met .neighbours-of-list) 103 (met .grows)
-
-pub crowded-container : isContainer ((worldAfter crowding .obj 103) .kind) ≡ true
-unfolding crowding granting grown morning room list one two tainted wordsFor lent zeros32 worldAfter start call after tests judge must opens entry make move access forbids fits spareOf useOf charged units answerOf leaves apply put linkIn under below stays kept edit goodArguments goodLabel goodText holds allHold flow reading writing floorFlow flowJoin flowJoinHigh containerOf segmentOf gateOf threadOf clearedAt overwrite resized orDefault kindCode isLive isThread isGate isSegment isContainer hasClearance blank nothing Σ when any both either leAt leBytes levelAt everyNamed holdsB compareB zerosB wordsB formedB insertW roomB wordsAt labelOf wordsBytes labelBytes
-crowded-container = refl
-
-pub crowded-live : isLive ((worldAfter (next crowding 101 fill) .obj 103) .kind) ≡ true
-unfolding crowding granting grown morning room list fill one two tainted wordsFor lent zeros32 worldAfter start call after tests judge must opens entry make move access forbids fits spareOf useOf charged units answerOf leaves apply put linkIn under below stays kept edit goodArguments goodLabel goodText holds allHold flow reading writing floorFlow flowJoin flowJoinHigh containerOf segmentOf gateOf threadOf clearedAt overwrite resized orDefault kindCode isLive isThread isGate isSegment isContainer hasClearance blank nothing Σ when any both either leAt leBytes levelAt everyNamed holdsB compareB zerosB wordsB formedB insertW roomB wordsAt labelOf wordsBytes labelBytes
-crowded-live = refl
-
--- and who made the spare smaller may write the container
-pub writer-did-it : writer (worldAfter crowding) 101 103 ≡ true
-writer-did-it = reckoned-shrinks-by crowding crowded-well 101 fill 103 crowded-container crowded-live (met .shrinks)
-
 -- ---- calls of the day by themselves
 
-pub record Said : Type 0 where
+pub record OfTheDay : Type 0 where
+  -- after call 107 there is container 103, and in it segment 104 of quota 5; 103 is there after call 111, and after a create that fills it
+  pub is-container : isContainer ((worldAfter granting .obj 103) .kind) ≡ true
+  pub is-segment : isSegment ((worldAfter granting .obj 104) .kind) ≡ true
+  pub quota-five : (worldAfter granting .obj 104) .quota ≡ 5
+  pub crowded-container : isContainer ((worldAfter crowding .obj 103) .kind) ≡ true
+  pub crowded-live : isLive ((worldAfter (next crowding 101 fill) .obj 103) .kind) ≡ true
   -- call 102 is granted; the same of a caller that is no thread is refused
   pub category : answerOf (call (worldAfter (started 100)) 101 createCategory) ≡ 0
   pub stranger : answerOf (call (worldAfter (started 100)) 111 createCategory) ≡ 3
@@ -183,10 +141,15 @@ pub record Said : Type 0 where
   pub byte-0 : lastWritten noted 104 0 ≡ 7
   pub byte-1 : lastWritten noted 104 1 ≡ 9
 
-pub day-said : Said
+pub of-the-day : OfTheDay
 unfolding wholeDay filled oneMore noted crowding fill granting grown morning room list reckoned granted grantedBy charge chargeBy lineIf lineOf lastWritten leftBy holdOf one two tainted wordsFor lent zeros32 worldAfter start call after tests judge must opens entry make move access forbids fits spareOf useOf charged units answerOf leaves apply put linkIn under below stays kept edit goodArguments goodLabel goodText holds allHold flow reading writing floorFlow flowJoin flowJoinHigh containerOf segmentOf gateOf threadOf clearedAt overwrite resized orDefault kindCode isLive isThread isGate isSegment isContainer hasClearance blank nothing Σ when any both either leAt leBytes levelAt everyNamed holdsB compareB zerosB wordsB formedB insertW roomB wordsAt labelOf wordsBytes labelBytes refusedEarlier
-day-said =
+of-the-day =
     record {
+      is-container = refl;
+      is-segment = refl;
+      quota-five = refl;
+      crowded-container = refl;
+      crowded-live = refl;
       category = refl;
       stranger = refl;
       first-create = refl;
@@ -201,3 +164,31 @@ day-said =
       byte-0 = refl;
       byte-1 = refl;
     }
+
+pub met : Met
+unfolding granting grown morning room list crowding fill reckoned granted grantedBy charge chargeBy lineIf lineOf refusedEarlier writer one two tainted wordsFor lent zeros32 worldAfter start call after tests judge must opens entry make move access forbids fits spareOf useOf charged units answerOf leaves apply put linkIn under below stays kept edit goodArguments goodLabel goodText holds allHold flow reading writing floorFlow flowJoin flowJoinHigh containerOf segmentOf gateOf threadOf clearedAt overwrite resized orDefault kindCode isLive isThread isGate isSegment isContainer hasClearance blank nothing Σ when any both either leAt leBytes levelAt everyNamed holdsB compareB zerosB wordsB formedB insertW roomB wordsAt labelOf wordsBytes labelBytes
+met =
+    record {
+      room = refl;
+      spare = refl;
+      neighbours = another 107 _ (another 107 _ (another 107 _ (another 107 _ nothingYet refl) refl) refl) refl;
+      neighbours-of-list = another 107 _ (another 107 _ (another 107 _ (another 107 _ nothingYet refl) refl) refl) refl;
+      passes = refl;
+      grows = refl;
+      shrinks = omega arith;
+    }
+
+-- So the promise of theorem 9 is about this day: after the neighbour took all it could, the job's container still takes the 14 units, and its list still grows.
+pub still-granted : answerOf (call (worldAfter crowding) 101 fill) ≡ 0
+unfolding fill lineIf takesUnits askedOf unitsAsked orDefault
+still-granted =
+    room-is-kept granting started-well crowding 101 103 14 (of-the-day .is-container) (omega (arith, met .room)) (met .neighbours) fill refl refl (omega arith) (met .passes)
+
+pub still-grows : answerOf (call (worldAfter crowding) 101 (resize 103 104 200)) ≡ 0
+unfolding units
+still-grows =
+    growth-is-kept granting started-well crowding 101 104 200 (of-the-day .is-segment) (omega (arith, (of-the-day .quota-five))) (met .neighbours-of-list) 103 (met .grows)
+
+-- and who made the spare smaller may write the container
+pub writer-did-it : writer (worldAfter crowding) 101 103 ≡ true
+writer-did-it = reckoned-shrinks-by crowding crowded-well 101 fill 103 (of-the-day .crowded-container) (of-the-day .crowded-live) (met .shrinks)

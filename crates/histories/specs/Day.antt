@@ -14,25 +14,25 @@ use Rattle.rules.specs.Ledger.{lineIf, takesUnits, askedOf, unitsAsked, refused
 use Rattle.rules.specs.Trees.{inTree}
 use Rattle.tables.specs.Layout.{view}
 use Rattle.book.specs.Sound.{Sound}
-use Rattle.examples.specs.Met.{granting, grown, crowding, filled, noted, fill, oneMore, Met, met, Said, day-said, is-container, is-segment, quota-five, crowded-container, crowded-live}
+use Rattle.examples.specs.Met.{granting, grown, crowding, filled, noted, fill, oneMore, Met, met, OfTheDay, of-the-day}
 use Rattle.histories.specs.Areas.{Bytes, world, Called, After}
 use Rattle.histories.specs.Demands.{Refusal}
 use Rattle.histories.specs.Theorems.{demand-1, demand-2, spells-the-world, stays-sound, tree-holds, reckoned-is-the-spare, reads-show, granted-exactly, shrinks-by, room-kept, list-can-grow}
 
 -- call 107's container, as the areas have it
 job-room : (b area : List ℕ) → After granting b area → isContainer ((world b area .obj 103) .kind) ≡ true
-job-room b area a = subst (λ (w : World). isContainer ((w .obj 103) .kind) ≡ true) (sym (spells-the-world granting b area a)) is-container
+job-room b area a = subst (λ (w : World). isContainer ((w .obj 103) .kind) ≡ true) (sym (spells-the-world granting b area a)) (of-the-day .is-container)
 
 job-list : (b area : List ℕ) → After granting b area → (isSegment ((world b area .obj 104) .kind) ≡ true) × ((world b area .obj 104) .quota ≡ 5)
 job-list b area a =
-    subst (λ (w : World). (isSegment ((w .obj 104) .kind) ≡ true) × ((w .obj 104) .quota ≡ 5)) (sym (spells-the-world granting b area a)) (is-segment, quota-five)
+    subst (λ (w : World). (isSegment ((w .obj 104) .kind) ≡ true) × ((w .obj 104) .quota ≡ 5)) (sym (spells-the-world granting b area a)) (of-the-day .is-segment, of-the-day .quota-five)
 
 -- ---- Demand 1: call 106 is refused by 13, and leaves everything but the number.
 pub too-long : (b area : List ℕ) → Bytes b → After grown b area
     → (answer value : ℕ) (b′ area′ : List ℕ) → Bytes b′ → Called b area 101 (resize 103 104 257) [] answer value b′ area′ []
     → (answer ≡ 13) × (value ≡ 0) × (area′ ≡ area) × (b′ ≡ leSet 8 b 0 (leAt 8 b 0 + 1))
 too-long b area h a answer value b′ area′ h′ d =
-    let e : answer ≡ 13 = demand-2 grown b area a 101 (resize 103 104 257) [] answer value b′ area′ [] d .answer-is ∙ day-said .too-long in
+    let e : answer ≡ 13 = demand-2 grown b area a 101 (resize 103 104 257) [] answer value b′ area′ [] d .answer-is ∙ of-the-day .too-long in
     let r = demand-1 b area 101 (resize 103 104 257) [] answer value b′ area′ [] h h′ d (λ z. omega arith) in
     (e, r .value-zero, r .area-same, r .number-on (omega arith))
 
@@ -41,9 +41,9 @@ pub reads-back : (b area : List ℕ) → After noted b area
     → (answer value : ℕ) (b′ area′ part : List ℕ) → Called b area 101 (read 103 104 0 0 2) [] answer value b′ area′ part
     → (answer ≡ 0) × (length part ≡ 2) × (getD part 0 0 ≡ 7) × (getD part 1 0 ≡ 9)
 reads-back b area a answer value b′ area′ part d =
-    let e : answer ≡ 0 = demand-2 noted b area a 101 (read 103 104 0 0 2) [] answer value b′ area′ part d .answer-is ∙ day-said .reads in
+    let e : answer ≡ 0 = demand-2 noted b area a 101 (read 103 104 0 0 2) [] answer value b′ area′ part d .answer-is ∙ of-the-day .reads in
     let (l, shown) = reads-show noted b area a 101 103 104 0 0 2 answer value b′ area′ part d e in
-    (e, l, shown 0 (omega arith) ∙ day-said .byte-0, shown 1 (omega arith) ∙ day-said .byte-1)
+    (e, l, shown 0 (omega arith) ∙ of-the-day .byte-0, shown 1 (omega arith) ∙ of-the-day .byte-1)
 
 -- ---- Demand 3: the book is sound after the neighbour took all it could,
 pub crowded-sound : (b area : List ℕ) → After crowding b area → Sound (view b)
@@ -55,7 +55,7 @@ job-spare b area a = sym (reckoned-is-the-spare granting b area a 103 (job-room 
 
 pub job-holds : (b area : List ℕ) → After granting b area → Σ (world b area .next) (λ o. when (inTree (world b area) 103 o) (holdOf (world b area) o)) ≤ 20
 job-holds b area a =
-    let q : (world b area .obj 103) .quota ≡ 20 = ap (λ (w : World). (w .obj 103) .quota) (spells-the-world granting b area a) ∙ day-said .quota in
+    let q : (world b area .obj 103) .quota ≡ 20 = ap (λ (w : World). (w .obj 103) .quota) (spells-the-world granting b area a) ∙ of-the-day .quota in
     omega (arith, tree-holds granting b area a 103 (job-room b area a), q)
 
 -- call 114 passes all earlier checks and does not fit the spare reckoned from the history, which is 0: 13.
@@ -64,15 +64,15 @@ pub no-more : (b area : List ℕ) → After filled b area
 unfolding oneMore lineIf takesUnits askedOf unitsAsked orDefault
 no-more b area a answer value b′ area′ d =
     let e = demand-2 filled b area a 101 oneMore [] answer value b′ area′ [] d .answer-is in
-    granted-exactly filled b area a 101 oneMore [] answer value b′ area′ [] d refl (subst (λ (n : ℕ). refusedEarlier n ≡ false) (sym e) (day-said .passed))
-    ∙ rw (day-said .full)
+    granted-exactly filled b area a 101 oneMore [] answer value b′ area′ [] d refl (subst (λ (n : ℕ). refusedEarlier n ≡ false) (sym e) (of-the-day .passed))
+    ∙ rw (of-the-day .full)
 
 -- and who made the spare of 103 smaller may write it.
 pub who-did-it : (b area : List ℕ) → After crowding b area → (b′ area′ : List ℕ) → After (next crowding 101 fill) b′ area′ → writer (world b area) 101 103 ≡ true
 who-did-it b area a b′ area′ a′ =
     shrinks-by crowding b area a 101 fill b′ area′ a′ 103
-    (subst (λ (w : World). isContainer ((w .obj 103) .kind) ≡ true) (sym (spells-the-world crowding b area a)) crowded-container)
-    (subst (λ (w : World). isLive ((w .obj 103) .kind) ≡ true) (sym (spells-the-world (next crowding 101 fill) b′ area′ a′)) crowded-live)
+    (subst (λ (w : World). isContainer ((w .obj 103) .kind) ≡ true) (sym (spells-the-world crowding b area a)) (of-the-day .crowded-container))
+    (subst (λ (w : World). isLive ((w .obj 103) .kind) ≡ true) (sym (spells-the-world (next crowding 101 fill) b′ area′ a′)) (of-the-day .crowded-live))
     (met .shrinks)
 
 -- ---- The fault cannot happen: after the neighbour took all it could, the job's container still takes the 14 units it had to spare,

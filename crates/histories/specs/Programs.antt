@@ -12,7 +12,7 @@ use Rattle.rules.specs.Issued.{callNumber, creates, issues}
 use Rattle.rules.specs.Laws.Bools.{bool-cases, not-both, or-i-r}
 use Rattle.rules.specs.Theorems.StaysSound.{history-sound}
 use Rattle.rules.specs.Theorems.Numbers.{issuing-value, created-live}
-use Rattle.examples.specs.Met.{room, list, morning, Said, day-said}
+use Rattle.examples.specs.Met.{room, list, morning, OfTheDay, of-the-day}
 use Rattle.histories.specs.Areas.{world, Called, After}
 use Rattle.histories.specs.Laws.Spelled.{spelled, ruled}
 use Rattle.histories.specs.Theorems.{demand-2}
@@ -41,7 +41,7 @@ AlwaysRefuses p =
 pub not-always-refuses : (p : Program) → Meets p → AlwaysRefuses p → (b area : List ℕ) → After (started 100) b area → CannotEnd p b area 101 createCategory
 not-always-refuses p meets refuses b area a out answer value b′ area′ out′ q =
     let r = demand-2 (started 100) b area a 101 createCategory out answer value b′ area′ out′ (meets b area 101 createCategory out answer value b′ area′ out′ q) in
-    refuses b area 101 createCategory out answer value b′ area′ out′ q (r .answer-is ∙ day-said .category)
+    refuses b area 101 createCategory out answer value b′ area′ out′ q (r .answer-is ∙ of-the-day .category)
 
 -- ---- "and one that answers 0 to all"
 
@@ -53,7 +53,7 @@ AnswersZero p =
 pub not-answers-zero : (p : Program) → Meets p → AnswersZero p → (b area : List ℕ) → After (started 100) b area → CannotEnd p b area 111 createCategory
 not-answers-zero p meets grants b area a out answer value b′ area′ out′ q =
     let r = demand-2 (started 100) b area a 111 createCategory out answer value b′ area′ out′ (meets b area 111 createCategory out answer value b′ area′ out′ q) in
-    let z = r .answer-is ∙ day-said .stranger in
+    let z = r .answer-is ∙ of-the-day .stranger in
     let e = grants b area 111 createCategory out answer value b′ area′ out′ q in
     omega arith
 
@@ -101,7 +101,7 @@ pub not-changes-nothing : (p : Program) → Meets p → ChangesNothing p → (b 
     → CannotEnd p b area 101 room
 not-changes-nothing p meets same b area a out answer value b′ area′ out′ q =
     unchanged-refused (next (started 100) 101 createCategory) b area a 101 room out answer value b′ area′ out′ (meets b area 101 room out answer value b′ area′ out′ q)
-    (unfold room creates callNumber in refl) (same b area 101 room out answer value b′ area′ out′ q) (day-said .first-create)
+    (unfold room creates callNumber in refl) (same b area 101 room out answer value b′ area′ out′ q) (of-the-day .first-create)
 
 -- ---- "one that honours the first create and only pretends afterwards (the history in demand 3)"
 
@@ -121,10 +121,10 @@ OnlyPretends p =
 pub not-only-pretends : (p : Program) → Meets p → OnlyPretends p → (b area : List ℕ) → After morning b area → CannotEnd p b area 101 list
 not-only-pretends p meets pretends b area a out answer value b′ area′ out′ q =
     unchanged-refused morning b area a 101 list out answer value b′ area′ out′ (meets b area 101 list out answer value b′ area′ out′ q) is-create
-    (pretends morning b area a created 101 list out answer value b′ area′ out′ is-create q) (day-said .second-create)
+    (pretends morning b area a created 101 list out answer value b′ area′ out′ is-create q) (of-the-day .second-create)
   where
     is-create : creates list ≡ true
     is-create = unfold list creates callNumber in refl
 
     created : hasCreated morning ≡ true
-    created = unfold morning hasCreated room creates callNumber in rw (day-said .first-create)
+    created = unfold morning hasCreated room creates callNumber in rw (of-the-day .first-create)
