@@ -8,3 +8,5 @@ pub mod Model3
 pub mod Model4
 pub mod Model5
 pub mod Met
+pub mod Unseen
+pub mod Leaks

@@ -2,7 +2,7 @@
 use Prim.Native.Nat.{ℕ, _≤_}
 use mathlib.Core.Bool.{Bool, true, false}
 use mathlib.Core.Path.{_≡_}
-use mathlib.Core.List.{List, [], _∷_, _++_}
+use mathlib.Core.List.{List, _∷_, _++_}
 use borrow.Author.Tests.{not-true}
 use Rattle.labels.specs.Core.{at, mayRead}
 use Rattle.rules.specs.Kernel.{isThread, isSegment, isContainer, Obj, World, Edit, relabel, fix, requota, rewrite, Change, keep, alter, create, cut, link}
