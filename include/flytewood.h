@@ -228,7 +228,8 @@ uint64_t fw_move_quota(uint8_t *book, uint64_t book_len, uint8_t *area, uint64_t
 /*
  * Call 12, read count bytes of segment s, an entry of d: block k, from byte `from` of it. The bytes are not copied:
  * they are the `*length` bytes of the data area from offset `*place` on, good until the next call. Both are 0 for
- * count 0 and on a refusal.
+ * count 0 and on a refusal. Show the bytes to the job that reads, and `*place` to none: which blocks a segment lies in
+ * tells what other jobs have used, also jobs whose work must not show (docs/DEMANDS.md, W5).
  * Answers 4 for k over 253 or from + count over 64; 5 unless d is readable and holds s; 6 unless s is a segment; 7
  * unless the caller may read s; 11 if 64k + from + count is above s's length, for count 0 too.
  */

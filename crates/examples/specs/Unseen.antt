@@ -86,6 +86,11 @@ unfoldable pub end : List Turn → World → World
 end [] w = w
 end (t ∷ ts) w = end ts (after w (t .caller) (t .call))
 
+-- the same of a history
+unfoldable pub grown : History → List Turn → History
+grown h [] = h
+grown h (t ∷ ts) = grown (next h (t .caller) (t .call)) ts
+
 -- whoever makes two calls is a tainted caller, in both worlds
 unfoldable pub byTainted : ℕ → World → World → List Side → Bool
 byTainted v a b [] = true
@@ -96,6 +101,12 @@ byTainted v a b (two c x y ∷ ts) = (taintedCaller v (a .obj c) && taintedCalle
 pub not-untainted : {C : Type 0} (v : ℕ) (x : Obj) → taintedCaller v x ≡ true → untaintedCaller v x ≡ true → C
 unfolding taintedCaller untaintedCaller
 not-untainted v x t u = not-both (untainted v x) (and-r (isThread (x .kind)) _ u) (not-true (untainted v x) (and-r (isThread (x .kind)) _ t))
+
+-- a history that grew by turns leads where they lead
+pub grown-world : (h : History) (ts : List Turn) → worldAfter (grown h ts) ≡ end ts (worldAfter h)
+unfolding grown end worldAfter
+grown-world h [] = refl
+grown-world h (t ∷ ts) = grown-world (next h (t .caller) (t .call)) ts
 
 module _ (v : ℕ) (w : World) where
   -- such histories are alike
@@ -188,6 +199,7 @@ pub record Computed : Type 0 where
   pub no-star : someStar 7 noon ≡ false
   pub no-stray : someStray 7 noon ≡ false
   pub by-tainted : byTainted 7 noon noon sides ≡ true
+  pub asks : untaintedCaller 7 (end (lefts sides) noon .obj 6) ≡ true
   pub left : run (lefts sides) noon ≡ left-said
   pub right : run (rights sides) noon ≡ right-said
   -- the two worlds are not the same: thread 9 has not the same label
@@ -196,12 +208,12 @@ pub record Computed : Type 0 where
 
 pub computed : Computed
 unfolding sides morning noon plainly dim dark cleared hiddenThread plainRoot left-said right-said holdsStar strays someStar someStray byTainted lefts rights end
-    run untainted untaintedContainer taintedCaller wordsFor lent zeros32 worldAfter start call after tests judge must opens entry make move access forbids
+    run untainted untaintedContainer untaintedCaller taintedCaller wordsFor lent zeros32 worldAfter start call after tests judge must opens entry make move access forbids
     fits spareOf useOf charged units answerOf valueOf outputOf leaves apply put linkIn under below stays kept edit goodArguments goodLabel goodText holds
     allHold flow reading writing floorFlow flowJoin flowJoinHigh containerOf segmentOf gateOf threadOf clearedAt lookBytes overwrite resized orDefault
     kindCode isLive isThread isGate isSegment isContainer hasClearance blank nothing Σ when any both either leAt leBytes levelAt everyNamed holdsB
     compareB zerosB wordsB formedB insertW roomB wordsAt labelOf wordsBytes labelBytes
-computed = record { number = refl; no-star = refl; no-stray = refl; by-tainted = refl; left = refl; right = refl; category-made = refl; none-made = refl }
+computed = record { number = refl; no-star = refl; no-stray = refl; by-tainted = refl; asks = refl; left = refl; right = refl; category-made = refl; none-made = refl }
 
 pub noon-sound : Sound noon
 unfolding noon

@@ -2,3 +2,4 @@
 pub mod Refused
 pub mod Spelled
 pub mod Exports
+pub mod Alike

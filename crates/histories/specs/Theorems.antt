@@ -1,4 +1,4 @@
--- The demands are met. Each statement stands in Demands.
+-- The demands are met, and W5. Each statement stands in Demands, or in Unseen.
 use Prim.Native.Nat.{ℕ, suc, _+_, _*_, _≤_, _<_}
 use native.Mathlib.Omega.{arith}
 use mathlib.Core.Bool.{Bool, true, false, cond}
@@ -20,6 +20,9 @@ use Rattle.rules.specs.Theorems.Exactly.{exactly, back-exactly}
 use Rattle.rules.specs.Theorems.Shrinks.{reckoned-shrinks-by}
 use Rattle.rules.specs.Theorems.Reads.{read-shows}
 use Rattle.rules.specs.Theorems.Granted.{room-is-kept, growth-is-kept}
+use Rattle.rules.specs.Theorems.StaysSound.{history-sound}
+use Rattle.tainted.specs.Tainted.{untaintedCaller, SameUntainted}
+use Rattle.tainted.specs.Theorem.{tainted-work-does-not-show, starts-untainted}
 use Rattle.tables.specs.Layout.{View, view}
 use Rattle.tables.specs.Layout.Only.{view-only}
 use Rattle.book.specs.Book.{worldOf}
@@ -30,9 +33,11 @@ use Rattle.calls.specs.Theorems.Kept.{verdict-is, world-after}
 use Rattle.calls.specs.Theorems.One.{one-outcome}
 use Rattle.histories.specs.Areas.{world, Called, After, begun, called}
 use Rattle.histories.specs.Demands as the
+use Rattle.histories.specs.Unseen as two
 use Rattle.histories.specs.Laws.Exports.{handed-out}
 use Rattle.histories.specs.Laws.Refused.{as-done, refusal}
 use Rattle.histories.specs.Laws.Spelled.{spelled, ruled}
+use Rattle.histories.specs.Laws.Alike.{not-1, told, runs, run-start, from, same-first}
 
 -- ---- Demand 1
 
@@ -174,3 +179,29 @@ list-can-grow h b area a s n segment fits k b₂ area₂ a₂ others c d out ans
     let is : isSegment ((worldAfter h .obj s) .kind) ≡ true = subst (λ (w : World). isSegment ((w .obj s) .kind) ≡ true) (p .spells) segment in
     let room : units n ≤ (worldAfter h .obj s) .quota = subst (λ (w : World). units n ≤ (w .obj s) .quota) (p .spells) fits in
     e ∙ growth-is-kept h (p .started-well) k c s n is room others d (subst (λ (i : ℕ). refusedEarlier i ≡ false) e m)
+
+-- ---- W5
+
+pub tainted-work-unseen : two.TaintedWorkUnseen
+tainted-work-unseen v w u b₁ area₁ b₂ area₂ r =
+    let k = runs v w r in
+    let t = tainted-work-does-not-show v w (run-start v w r) u (world b₁ area₁) (world b₂ area₂) (k .alike) in
+    (told v b₁ area₁ b₂ area₂ (k .good₁) (k .good₂) (t .0), t .1)
+
+pub without-answer-1 : two.WithoutAnswer1
+without-answer-1 v w b₁ area₁ b₂ area₂ r = let k = runs v w r in (not-1 b₁ area₁ (k .good₁), not-1 b₂ area₂ (k .good₂))
+
+pub unseen-from : two.UnseenFrom
+unseen-from v p h k u r b₁ area₁ b₂ area₂ a₁ a₂ =
+    let s₁ = spelled h b₁ area₁ a₁ in
+    let s₂ = spelled k b₂ area₂ a₂ in
+    let t = tainted-work-does-not-show v (worldAfter p) (history-sound p (same-first v r (s₁ .started-well))) u (worldAfter h) (worldAfter k) (from v r) in (
+      told v b₁ area₁ b₂ area₂ (s₁ .good) (s₂ .good) (λ c x i.
+          subst (λ (w : World). call w c x ≡ call (world b₂ area₂) c x) (sym (s₁ .spells))
+          (t .0 c x (subst (λ (w : World). untaintedCaller v (w .obj c) ≡ true) (s₁ .spells) i) ∙ ap (λ (w : World). call w c x) (sym (s₂ .spells)))),
+      subst (λ (w : World). SameUntainted v w (world b₂ area₂)) (sym (s₁ .spells)) (subst (λ (w : World). SameUntainted v (worldAfter h) w) (sym (s₂ .spells)) (t .1)),
+    )
+
+pub unseen-from-start : two.UnseenFromStart
+unfolding worldAfter
+unseen-from-start v f h k l r = unseen-from v (started f) h k (starts-untainted f v l) r

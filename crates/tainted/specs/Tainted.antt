@@ -55,9 +55,9 @@ pub data AlikeHistories (kernel : Kernel) (v : ℕ) (w : World) : World → Worl
 
 -- ---- what is the same in both
 
--- "reached through such containers": the root, and what is linked in an untainted container that is reached
+-- "reached through such containers": from the root by links of untainted containers, if the root is one
 pub data Reached (v : ℕ) (w : World) : ℕ → Type 0 where
-  top : Reached v w (w .root)
+  top : untaintedContainer v (w .obj (w .root)) ≡ true → Reached v w (w .root)
   through : (d o : ℕ) → Reached v w d → untaintedContainer v (w .obj d) ≡ true → w .linked d o ≡ true → Reached v w o
 
 -- "every object of level 1 or less in v reached through such containers is the same, with the same links

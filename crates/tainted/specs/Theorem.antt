@@ -8,7 +8,7 @@ use mathlib.Core.List.{List}
 use lib.Dec.{leb}
 use borrow.Author.Tests.{leb-false, leb-true}
 use Rattle.labels.specs.Core.{at, level1}
-use Rattle.rules.specs.Kernel.{isThread, isContainer, Obj, World, Change, keep, apply, Call, Verdict, refuse, grant, goodArguments, judge, tests, call, leaves}
+use Rattle.rules.specs.Kernel.{isThread, Obj, World, Change, keep, apply, Call, Verdict, refuse, grant, goodArguments, judge, tests, call, leaves}
 use Rattle.rules.specs.Kernel.{after, answerOf, valueOf, outputOf, lastNumber}
 use Rattle.rules.specs.Sound.{Sound}
 use Rattle.rules.specs.Laws.Bools.{and-l, and-r, same-by, bool-cases}
@@ -17,7 +17,7 @@ use Rattle.rules.specs.Theorems.Refusals.{granted, refused-world, ended-world, 
 use Rattle.rules.specs.Theorems.StaysSound.{stays-sound}
 use Rattle.tainted.specs.Tainted as the
 use Rattle.tainted.specs.Tainted.{untainted, untaintedContainer, untaintedCaller, AlikeHistories, same-start, turn, Reached, top, through, SameUntainted}
-use Rattle.tainted.specs.Laws.Rooms.{tainted-gt, room-of}
+use Rattle.tainted.specs.Laws.Rooms.{tainted-gt}
 use Rattle.tainted.specs.Laws.Seen.{same-whole, same-taint}
 use Rattle.tainted.specs.Laws.Alike.{TermsKept, terms-at-start, Alike, alike-refl, alike-sym, alike-trans, caller-same}
 use Rattle.tainted.specs.Laws.Both.{keep-both}
@@ -162,24 +162,20 @@ module _ (v : ℕ) where
 
   -- ---- what is the same in both
 
-  room-untainted : (x : Obj) → isContainer (x .kind) ≡ true → untaintedContainer v x ≡ untainted v x
-  unfolding untaintedContainer
-  room-untainted x h = rw h
-
   module _ (a b : World) (k : Pair a b) where
+    root-too : untaintedContainer v (a .obj (a .root)) ≡ true → untaintedContainer v (b .obj (b .root)) ≡ true
+    root-too h = subst (λ (r : ℕ). untaintedContainer v (b .obj r) ≡ true) (k .alike .same-root) (sym (k .alike .rooms (a .root)) ∙ h)
+
     reached-too : {o : ℕ} → Reached v a o → Reached v b o
-    reached-too top = subst (Reached v b) (sym (k .alike .same-root)) top
+    reached-too (top h) = subst (Reached v b) (sym (k .alike .same-root)) (top (root-too h))
     reached-too (through d o r h l) = through d o (reached-too r) (sym (k .alike .rooms d) ∙ h) (sym (k .alike .links d o h) ∙ l)
 
     same-taints : {o : ℕ} → Reached v a o → untainted v (a .obj o) ≡ untainted v (b .obj o)
-    same-taints top =
-        sym (room-untainted (a .obj (a .root)) (k .sound-a .tree .root-container)) ∙ k .alike .rooms (a .root)
-        ∙ room-untainted (b .obj (a .root))
-        (subst (λ (r : ℕ). isContainer ((b .obj r) .kind) ≡ true) (sym (k .alike .same-root)) (k .sound-b .tree .root-container))
+    same-taints (top h) = ap (untainted v) (k .alike .room-objs (a .root) h)
     same-taints (through d o r h l) = same-taint v (a .obj o) (b .obj o) (k .alike .objs d o h l)
 
     same-objects : {o : ℕ} → Reached v a o → untainted v (a .obj o) ≡ true → a .obj o ≡ b .obj o
-    same-objects top l = k .alike .room-objs (a .root) (room-of v (a .obj (a .root)) (k .sound-a .tree .root-container) l)
+    same-objects (top h) l = k .alike .room-objs (a .root) h
     same-objects (through d o r h i) l = same-whole v (a .obj o) (b .obj o) (k .alike .objs d o h i) l
 
   same-untainted : (a b : World) → Pair a b → SameUntainted v a b
