@@ -3,6 +3,7 @@
 pub mod books;
 pub mod compounds;
 pub mod damage;
+pub mod laid;
 pub mod place;
 pub mod positions;
 pub mod script;

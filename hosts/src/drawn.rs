@@ -3,7 +3,7 @@
 
 use crate::ask::*;
 use crate::labels::*;
-use crate::model::{Body, Call, Kind, World};
+use crate::model::{Body, Call, Kind, Object, World};
 use crate::random::Random;
 
 pub struct Drawer<'a> {
@@ -20,15 +20,27 @@ struct Drawn {
     clearance: Label,
 }
 
+impl Drawn {
+    fn plain(id: u64) -> Drawn {
+        Drawn { id, label: Label::plain(LEVEL_1), clearance: Label::plain(LEVEL_2) }
+    }
+}
+
 impl Drawer<'_> {
     pub fn turn(&mut self) -> (u64, Call) {
         let t = self.caller();
-        let call = self.call(&t);
+        let number = self.random.between(1, 16);
+        let call = self.call(&t, number);
         (t.id, call)
     }
 
-    fn call(&mut self, t: &Drawn) -> Call {
-        let number = self.random.between(1, 16);
+    /// This call, 1 to 16, of this caller.
+    pub fn call_of(&mut self, id: u64, number: u64) -> Call {
+        let t = self.drawn(id);
+        self.call(&t, number)
+    }
+
+    fn call(&mut self, t: &Drawn, number: u64) -> Call {
         match number {
             1 => category(),
             2 => Call::SetLabel { label: self.owners_label(t) },
@@ -119,15 +131,18 @@ impl Drawer<'_> {
     fn caller(&mut self) -> Drawn {
         let threads = self.of_kinds(&[Kind::Thread]);
         if threads.is_empty() || self.random.chance(6) {
-            let id = self.any_id();
-            return Drawn { id, label: Label::plain(LEVEL_1), clearance: Label::plain(LEVEL_2) };
+            return Drawn::plain(self.any_id());
         }
         let id = self.random.pick(&threads);
-        match &self.world.objects[&id].body {
-            Body::Thread { clearance } => {
-                Drawn { id, label: self.world.objects[&id].label, clearance: *clearance }
+        self.drawn(id)
+    }
+
+    fn drawn(&self, id: u64) -> Drawn {
+        match self.world.objects.get(&id) {
+            Some(Object { label, body: Body::Thread { clearance }, .. }) => {
+                Drawn { id, label: *label, clearance: *clearance }
             }
-            _ => panic!("a thread was drawn"),
+            _ => Drawn::plain(id),
         }
     }
 

@@ -3,6 +3,9 @@
 //!     differ                               the fixed run of the gate
 //!     differ soak --minutes N [--seed S]   rounds of other seeds for so many minutes
 //!     differ round S                       the round of one seed again
+//!     differ pairs                         W5: two histories at once, the fixed run of the gate
+//!     differ pairs soak --minutes N [--seed S]   pairs of other seeds for so many minutes
+//!     differ pairs pair S                  the pair of one seed again, turn by turn
 //!
 //! With `--bare` before the other words nothing stands around what is lent, for a run under a memory checker.
 
@@ -13,6 +16,7 @@ mod features;
 mod guarded;
 mod hostile;
 mod mixture;
+mod pairs;
 mod report;
 mod rounds;
 mod run;
@@ -24,7 +28,9 @@ mod themes;
 use std::env;
 use std::process::exit;
 
-const USAGE: &str = "usage: differ | differ [--bare] soak --minutes N [--seed S] | differ [--bare] round S";
+const USAGE: &str =
+    "usage: differ [--bare] [pairs] [soak --minutes N [--seed S]] | differ [--bare] round S | \
+                     differ [--bare] pairs pair S";
 
 fn main() {
     let words: Vec<String> = env::args().skip(1).collect();
@@ -38,6 +44,10 @@ fn main() {
         ["soak", "--minutes", minutes] => soak::soak(number(minutes), soak::FIRST_SEED),
         ["soak", "--minutes", minutes, "--seed", seed] => soak::soak(number(minutes), number(seed)),
         ["round", seed] => rounds::one_round(number(seed)),
+        ["pairs"] => pairs::fixed_run(),
+        ["pairs", "soak", "--minutes", minutes] => pairs::soak(number(minutes), soak::FIRST_SEED),
+        ["pairs", "soak", "--minutes", minutes, "--seed", seed] => pairs::soak(number(minutes), number(seed)),
+        ["pairs", "pair", seed] => pairs::one_pair(number(seed)),
         _ => usage(),
     };
     if let Err(error) = done {

@@ -66,7 +66,20 @@ pub fn draw(random: &mut Random, world: &World) -> (u64, Call) {
     if world.next >= PAST_THE_END {
         return draw(random, &before_the_end(world));
     }
-    let (mut caller, mut call) = Drawer { random: &mut *random, world, longest: LONGEST }.turn();
+    let (caller, call) = Drawer { random: &mut *random, world, longest: LONGEST }.turn();
+    varied(random, caller, call)
+}
+
+/// This call, 1 to 16, of this caller, to suit a world.
+pub fn draw_of(random: &mut Random, world: &World, caller: u64, number: u64) -> Call {
+    if world.next >= PAST_THE_END {
+        return draw_of(random, &before_the_end(world), caller, number);
+    }
+    let call = Drawer { random: &mut *random, world, longest: LONGEST }.call_of(caller, number);
+    varied(random, caller, call).1
+}
+
+fn varied(random: &mut Random, mut caller: u64, mut call: Call) -> (u64, Call) {
     fill_in(random, &mut call);
     match random.below(100) {
         0 => *random_number(random, &mut caller, &mut call) = extreme(random),
@@ -82,7 +95,7 @@ fn before_the_end(world: &World) -> World {
 }
 
 /// Descriptions, closures and entry numbers are the callers' own, so they may be anything.
-fn fill_in(random: &mut Random, call: &mut Call) {
+pub fn fill_in(random: &mut Random, call: &mut Call) {
     if let Call::CreateGate { entry, .. } = call {
         *entry = random.draw() >> random.below(64);
     }

@@ -8,7 +8,7 @@ use std::time::{Duration, Instant};
 
 /// Past the seeds of the fixed run.
 pub const FIRST_SEED: u64 = 1_000_000;
-const A_MINUTE: Duration = Duration::from_secs(60);
+pub const A_MINUTE: Duration = Duration::from_secs(60);
 /// How many rounds go by between two goes at the set cases.
 const SET_CASES_EVERY: u64 = 500;
 const RANDOM_BOOKS: usize = 100;

@@ -25,24 +25,22 @@ pub struct Style {
     pub full: bool,
 }
 
-struct Placer<'a> {
-    random: &'a mut Random,
+pub(super) struct Placer<'a> {
+    pub(super) random: &'a mut Random,
     style: Style,
-    book: Vec<u8>,
-    rows: Vec<usize>,
-    links: Vec<usize>,
-    blocks: Vec<usize>,
+    pub(super) book: Vec<u8>,
+    /// The rows, links and blocks in the order they are taken.
+    pub(super) rows: Vec<usize>,
+    pub(super) links: Vec<usize>,
+    pub(super) blocks: Vec<usize>,
 }
 
 /// The book that says just these things.
 pub fn place(random: &mut Random, things: &[Thing], style: Style) -> Vec<u8> {
-    let rows = order(random, style.order, ROWS);
-    let links = order(random, style.order, LINKS);
-    let blocks = order(random, style.order, BLOCKS);
+    let mut placer = Placer::new(random, style);
     let spare_id = style.next > things.len() as u64 + 1;
-    let ids = distinct(random, style.next, things.len() + usize::from(spare_id));
-    let ids = reordered(random, ids);
-    let mut placer = Placer { random, style, book: vec![0; BOOK_LEN], rows, links, blocks };
+    let ids = distinct(placer.random, style.next, things.len() + usize::from(spare_id));
+    let ids = reordered(placer.random, ids);
     placer.things(things, &ids);
     if spare_id && style.garbage > 0 {
         placer.ghost(things.len(), ids[things.len()]);
@@ -51,8 +49,17 @@ pub fn place(random: &mut Random, things: &[Thing], style: Style) -> Vec<u8> {
     placer.book
 }
 
+impl<'a> Placer<'a> {
+    pub(super) fn new(random: &'a mut Random, style: Style) -> Placer<'a> {
+        let rows = order(random, style.order, ROWS);
+        let links = order(random, style.order, LINKS);
+        let blocks = order(random, style.order, BLOCKS);
+        Placer { random, style, book: vec![0; BOOK_LEN], rows, links, blocks }
+    }
+}
+
 impl Placer<'_> {
-    fn set(&mut self, table: Table, number: usize, value: u64) {
+    pub(super) fn set(&mut self, table: Table, number: usize, value: u64) {
         set(&mut self.book, table, number, value);
     }
 
@@ -119,7 +126,7 @@ impl Placer<'_> {
         self.random.choose(pool, count)
     }
 
-    fn label(&mut self, default: Table, words: Table, row: usize, label: &Label) {
+    pub(super) fn label(&mut self, default: Table, words: Table, row: usize, label: &Label) {
         self.set(default, row, u64::from(label.default));
         for (place, word) in label.words.iter().enumerate() {
             self.set(words, row * WORDS + place, *word);
@@ -138,7 +145,7 @@ impl Placer<'_> {
         }
     }
 
-    fn garbage(&mut self) {
+    pub(super) fn garbage(&mut self) {
         for table in TABLES.iter() {
             for number in 0..table.count {
                 if self.may_be_littered(*table, number) {
@@ -178,7 +185,7 @@ fn order(random: &mut Random, order: Order, count: usize) -> Vec<usize> {
     }
 }
 
-fn reordered<T: Clone>(random: &mut Random, mut from: Vec<T>) -> Vec<T> {
+pub(super) fn reordered<T: Clone>(random: &mut Random, mut from: Vec<T>) -> Vec<T> {
     for i in (1..from.len()).rev() {
         from.swap(i, random.below(i as u64 + 1) as usize);
     }
