@@ -13,7 +13,7 @@ mod told;
 mod untainted;
 
 use crate::bench::{need, Checked};
-use crate::soak::A_MINUTE;
+use crate::soak::seeds_for;
 use leaks::{Leak, LEAKS};
 use pair::{pair, Tally};
 use starts::THEMES;
@@ -86,22 +86,10 @@ fn everything_was_reached(tally: &Tally) -> Checked {
 /// Pairs for a given number of minutes, seed after seed.
 pub fn soak(minutes: u64, first: u64) -> Checked {
     let mut tally = Tally::new();
-    let began = Instant::now();
-    let mut told = began;
-    let mut seed = first;
-    while began.elapsed() < A_MINUTE * minutes as u32 {
-        pair(seed, None, false, &mut tally).map_err(|error| {
-            format!("{}\nthis again: differ pairs pair {}; go on: --seed {}", error, seed, seed + 1)
-        })?;
-        seed += 1;
-        if told.elapsed() >= A_MINUTE {
-            told = Instant::now();
-            println!("{} min: seeds {} to {}", began.elapsed().as_secs() / 60, first, seed - 1);
-        }
-    }
+    let next = seeds_for(minutes, first, "pairs pair", |seed| pair(seed, None, false, &mut tally))?;
     report::print(&tally);
     let empty = report::empty(&tally.compared);
     println!("cells that stayed empty (call, answer): {:?}; never reached: {:?}", empty, tally.missing());
-    println!("seeds {} to {}: no difference. To go on: --seed {}", first, seed - 1, seed);
+    println!("seeds {} to {}: no difference. To go on: --seed {}", first, next - 1, next);
     Ok(())
 }

@@ -8,26 +8,14 @@ use std::time::{Duration, Instant};
 
 /// Past the seeds of the fixed run.
 pub const FIRST_SEED: u64 = 1_000_000;
-pub const A_MINUTE: Duration = Duration::from_secs(60);
+const A_MINUTE: Duration = Duration::from_secs(60);
 /// How many rounds go by between two goes at the set cases.
 const SET_CASES_EVERY: u64 = 500;
 const RANDOM_BOOKS: usize = 100;
 
 pub fn soak(minutes: u64, first: u64) -> Checked {
     let mut counts = Counts::new();
-    let began = Instant::now();
-    let mut told = began;
-    let mut seed = first;
-    while began.elapsed() < A_MINUTE * minutes as u32 {
-        one(seed, first, &mut counts).map_err(|error| {
-            format!("{}\nthis again: differ round {}; go on: --seed {}", error, seed, seed + 1)
-        })?;
-        seed += 1;
-        if told.elapsed() >= A_MINUTE {
-            told = Instant::now();
-            println!("{} min: seeds {} to {}", began.elapsed().as_secs() / 60, first, seed - 1);
-        }
-    }
+    let next = seeds_for(minutes, first, "round", |seed| one(seed, first, &mut counts))?;
     report::print(&counts);
     let empty = Table { seen: &report::all_seen(&counts), areas: true }.empty();
     println!(
@@ -35,8 +23,32 @@ pub fn soak(minutes: u64, first: u64) -> Checked {
         empty,
         counts.histories.missing()
     );
-    println!("seeds {} to {}: no difference. To go on: --seed {}", first, seed - 1, seed);
+    println!("seeds {} to {}: no difference. To go on: --seed {}", first, next - 1, next);
     Ok(())
+}
+
+/// Seed after seed for so many minutes, told every minute; `again` are the words that repeat one of them. The
+/// seed to go on from.
+pub fn seeds_for(
+    minutes: u64,
+    first: u64,
+    again: &str,
+    mut one: impl FnMut(u64) -> Checked,
+) -> Result<u64, String> {
+    let began = Instant::now();
+    let mut told = began;
+    let mut seed = first;
+    while began.elapsed() < A_MINUTE * minutes as u32 {
+        one(seed).map_err(|error| {
+            format!("{}\nthis again: differ {} {}; go on: --seed {}", error, again, seed, seed + 1)
+        })?;
+        seed += 1;
+        if told.elapsed() >= A_MINUTE {
+            told = Instant::now();
+            println!("{} min: seeds {} to {}", began.elapsed().as_secs() / 60, first, seed - 1);
+        }
+    }
+    Ok(seed)
 }
 
 fn one(seed: u64, first: u64, counts: &mut Counts) -> Checked {
