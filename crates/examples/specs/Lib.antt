@@ -1,4 +1,5 @@
 -- Worked examples: what page 01 says comes out of the rules by computing.
+pub mod Paper
 pub mod Play
 pub mod Grantday
 pub mod Errors

@@ -11,4 +11,3 @@ pub mod Reckoned
 pub mod Exactly
 pub mod Granted
 pub mod Unreadable
-pub mod Paper
