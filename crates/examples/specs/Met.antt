@@ -6,6 +6,7 @@ use mathlib.Core.Bool.{true, false}
 use mathlib.Core.Path.{_≡_, refl}
 use mathlib.Core.List.{List, [], _∷_}
 use lib.ListN.{length, take, drop, replicate, getD}
+use lib.IntN.{negsuc}
 use Rattle.labels.specs.Le.{leAt, leBytes}
 use Rattle.labels.specs.Core.{levelAt, everyNamed, holdsB, compareB, zerosB, wordsB, formedB, insertW, roomB, wordsAt, labelOf, wordsBytes, labelBytes}
 use Rattle.quotas.specs.Sum.{Σ, when}
@@ -20,7 +21,7 @@ use Rattle.rules.specs.Theorems.StaysSound.{history-sound}
 use Rattle.rules.specs.Theorems.Reckoned.{reckoned-is-spare}
 use Rattle.rules.specs.Theorems.Granted.{room-is-kept, growth-is-kept}
 use Rattle.rules.specs.Theorems.Shrinks.{reckoned-shrinks-by}
-use Rattle.examples.specs.Play.{wordsFor, lent, zeros32, into}
+use Rattle.examples.specs.Play.{wordsFor, lent, zeros32, bytesB, into}
 
 unfoldable pub one : List ℕ
 one = lent 2 []
@@ -87,6 +88,14 @@ wholeDay =
 unfoldable pub noted : History
 noted = next granting 101 (write 103 104 0 0 2 (7 ∷ 9 ∷ []))
 
+-- and then the job's container goes, with the list in it
+unfoldable pub gone : History
+gone = next noted 101 (unreference 100 103)
+
+-- all that 103 has to spare, taken back
+unfoldable pub takeBack : Call
+takeBack = moveQuota 100 103 (negsuc 13)
+
 started-well : WellStarted granting
 unfolding granting grown morning firstNumber startable
 started-well = refl
@@ -109,6 +118,8 @@ pub record Met : Type 0 where
   -- the create that fills 103 passes all earlier checks
   pub passes : refusedEarlier (answerOf (call (worldAfter crowding) 101 fill)) ≡ false
   pub grows : refusedEarlier (answerOf (call (worldAfter crowding) 101 (resize 103 104 200))) ≡ false
+  -- and so does taking its 14 units back
+  pub goes-back : refusedEarlier (answerOf (call (worldAfter crowding) 101 takeBack)) ≡ false
   -- theorem 6: and it makes the spare of 103 smaller
   pub shrinks : reckoned (next crowding 101 fill) 103 < reckoned crowding 103
 
@@ -127,6 +138,9 @@ pub record OfTheDay : Type 0 where
   -- calls 103 and 104, the first two creates, are granted
   pub first-create : answerOf (call (worldAfter (next (started 100) 101 createCategory)) 101 room) ≡ 0
   pub second-create : answerOf (call (worldAfter morning) 101 list) ≡ 0
+  -- what they are lent is bytes
+  pub label-bytes : bytesB tainted ≡ true
+  pub text-bytes : bytesB zeros32 ≡ true
   -- call 106, one byte more than the list's quota allows
   pub too-long : answerOf (call (worldAfter grown) 101 (resize 103 104 257)) ≡ 13
   -- after call 107 container 103 has quota 20, and the list in its tree holds 5 of them
@@ -140,9 +154,12 @@ pub record OfTheDay : Type 0 where
   pub reads : answerOf (call (worldAfter noted) 101 (read 103 104 0 0 2)) ≡ 0
   pub byte-0 : lastWritten noted 104 0 ≡ 7
   pub byte-1 : lastWritten noted 104 1 ≡ 9
+  -- the container goes, and no segment is left
+  pub goes : answerOf (call (worldAfter noted) 101 (unreference 100 103)) ≡ 0
+  pub no-segment : any (worldAfter gone .next) (λ o. isSegment ((worldAfter gone .obj o) .kind)) ≡ false
 
 pub of-the-day : OfTheDay
-unfolding wholeDay filled oneMore noted crowding fill granting grown morning room list reckoned granted grantedBy charge chargeBy lineIf lineOf lastWritten leftBy holdOf one two tainted wordsFor lent zeros32 worldAfter start call after tests judge must opens entry make move access forbids fits spareOf useOf charged units answerOf leaves apply put linkIn under below stays kept edit goodArguments goodLabel goodText holds allHold flow reading writing floorFlow flowJoin flowJoinHigh containerOf segmentOf gateOf threadOf clearedAt overwrite resized orDefault kindCode isLive isThread isGate isSegment isContainer hasClearance blank nothing Σ when any both either leAt leBytes levelAt everyNamed holdsB compareB zerosB wordsB formedB insertW roomB wordsAt labelOf wordsBytes labelBytes refusedEarlier
+unfolding wholeDay filled oneMore gone noted crowding fill granting grown morning room list reckoned granted grantedBy charge chargeBy lineIf lineOf lastWritten leftBy holdOf one two tainted wordsFor lent zeros32 worldAfter start call after tests judge must opens entry make move access forbids fits spareOf useOf charged units answerOf leaves apply put linkIn under below stays kept edit goodArguments goodLabel goodText holds allHold flow reading writing floorFlow flowJoin flowJoinHigh containerOf segmentOf gateOf threadOf clearedAt overwrite resized orDefault kindCode isLive isThread isGate isSegment isContainer hasClearance blank nothing Σ when any both either leAt leBytes levelAt everyNamed holdsB compareB zerosB wordsB formedB insertW roomB wordsAt labelOf wordsBytes labelBytes refusedEarlier bytesB
 of-the-day =
     record {
       is-container = refl;
@@ -154,6 +171,8 @@ of-the-day =
       stranger = refl;
       first-create = refl;
       second-create = refl;
+      label-bytes = refl;
+      text-bytes = refl;
       too-long = refl;
       quota = refl;
       tree = refl;
@@ -163,10 +182,12 @@ of-the-day =
       reads = refl;
       byte-0 = refl;
       byte-1 = refl;
+      goes = refl;
+      no-segment = refl;
     }
 
 pub met : Met
-unfolding granting grown morning room list crowding fill reckoned granted grantedBy charge chargeBy lineIf lineOf refusedEarlier writer one two tainted wordsFor lent zeros32 worldAfter start call after tests judge must opens entry make move access forbids fits spareOf useOf charged units answerOf leaves apply put linkIn under below stays kept edit goodArguments goodLabel goodText holds allHold flow reading writing floorFlow flowJoin flowJoinHigh containerOf segmentOf gateOf threadOf clearedAt overwrite resized orDefault kindCode isLive isThread isGate isSegment isContainer hasClearance blank nothing Σ when any both either leAt leBytes levelAt everyNamed holdsB compareB zerosB wordsB formedB insertW roomB wordsAt labelOf wordsBytes labelBytes
+unfolding granting grown morning room list crowding fill takeBack reckoned granted grantedBy charge chargeBy lineIf lineOf refusedEarlier writer one two tainted wordsFor lent zeros32 worldAfter start call after tests judge must opens entry make move access forbids fits spareOf useOf charged units answerOf leaves apply put linkIn under below stays kept edit goodArguments goodLabel goodText holds allHold flow reading writing floorFlow flowJoin flowJoinHigh containerOf segmentOf gateOf threadOf clearedAt overwrite resized orDefault kindCode isLive isThread isGate isSegment isContainer hasClearance blank nothing Σ when any both either leAt leBytes levelAt everyNamed holdsB compareB zerosB wordsB formedB insertW roomB wordsAt labelOf wordsBytes labelBytes
 met =
     record {
       room = refl;
@@ -175,14 +196,22 @@ met =
       neighbours-of-list = another 107 _ (another 107 _ (another 107 _ (another 107 _ nothingYet refl) refl) refl) refl;
       passes = refl;
       grows = refl;
+      goes-back = refl;
       shrinks = omega arith;
     }
 
--- So the promise of theorem 9 is about this day: after the neighbour took all it could, the job's container still takes the 14 units, and its list still grows.
+-- So the promise of theorem 9 is about this day: after the neighbour took all it could, the job's container still takes the 14 units, they can still be taken
+-- back from it, and its list still grows.
 pub still-granted : answerOf (call (worldAfter crowding) 101 fill) ≡ 0
 unfolding fill lineIf takesUnits askedOf unitsAsked orDefault
 still-granted =
     room-is-kept granting started-well crowding 101 103 14 (of-the-day .is-container) (omega (arith, met .room)) (met .neighbours) fill refl refl (omega arith) (met .passes)
+
+pub still-goes-back : answerOf (call (worldAfter crowding) 101 takeBack) ≡ 0
+unfolding takeBack lineIf takesUnits askedOf unitsAsked
+still-goes-back =
+    room-is-kept granting started-well crowding 101 103 14 (of-the-day .is-container) (omega (arith, met .room)) (met .neighbours) takeBack
+    (of-the-day .crowded-container) refl (omega arith) (met .goes-back)
 
 pub still-grows : answerOf (call (worldAfter crowding) 101 (resize 103 104 200)) ≡ 0
 unfolding units

@@ -1,11 +1,17 @@
 -- A history played call by call, with what each call says.
-use Prim.Native.Nat.{ℕ, _+_, _-_}
+use Prim.Native.Nat.{ℕ, zero, suc, _+_, _-_, _<_}
+use native.Mathlib.Omega.{arith}
+use mathlib.Core.Bool.{Bool, true, _&&_}
+use mathlib.Core.Path.{_≡_}
 use mathlib.Core.List.{List, [], _∷_}
-use lib.ListN.{replicate}
+use lib.ListN.{getD, replicate}
+use lib.Dec.{ltb}
+use borrow.Author.Tests.{ltb-true}
 use lib.IntN.{ℤ, pos, negsuc}
 use Rattle.labels.specs.declared.Label.{Label}
 use Rattle.labels.specs.Core.{labelBytes, wordOf, wordCount}
 use Rattle.rules.specs.Kernel.{World, Call, start, call, after, answerOf, valueOf, outputOf}
+use Rattle.rules.specs.Laws.Bools.{and-l, and-r}
 
 pub record Turn : Type 0 where
   pub caller : ℕ
@@ -58,6 +64,17 @@ lent d ps = labelBytes (record { default = d; words = wordsFor wordCount ps })
 
 unfoldable pub zeros32 : List ℕ
 zeros32 = replicate 32 0
+
+-- each number of a list is a byte
+unfoldable pub bytesB : List ℕ → Bool
+bytesB [] = true
+bytesB (n ∷ ns) = ltb n 256 && bytesB ns
+
+pub bytes-below : (l : List ℕ) → bytesB l ≡ true → (k : ℕ) → getD l k 0 < 256
+unfolding bytesB
+bytes-below [] e k = omega arith
+bytes-below (n ∷ ns) e zero = ltb-true n 256 (and-l (ltb n 256) (bytesB ns) e)
+bytes-below (n ∷ ns) e (suc k) = bytes-below ns (and-r (ltb n 256) (bytesB ns) e) k
 
 -- call 11's n: units moved in, or back
 abbrev pub into : ℕ → ℤ

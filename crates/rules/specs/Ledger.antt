@@ -7,7 +7,7 @@ use lib.Dec.{eqb, leb}
 use lib.IntN.{pos, negsuc}
 use Rattle.labels.specs.Core.{mayWrite}
 use Rattle.quotas.specs.Sum.{Σ, when}
-use Rattle.rules.specs.Kernel.{World, isThread, Call, createCategory, setLabel, setClearance, createContainer, createSegment, createGate, createThread, unreference, linkSegment, fixQuota, moveQuota, read, write, resize, enterGate, look, orDefault, containerDefault, segmentDefault, rootQuota, answerOf, call, History, started, next, worldAfter}
+use Rattle.rules.specs.Kernel.{World, isThread, isContainer, Call, createCategory, setLabel, setClearance, createContainer, createSegment, createGate, createThread, unreference, linkSegment, fixQuota, moveQuota, read, write, resize, enterGate, look, orDefault, containerDefault, segmentDefault, rootQuota, answerOf, call, History, started, next, worldAfter}
 
 -- ---- the ledger
 
@@ -87,13 +87,13 @@ BackWasThere h (movedBack d o n) = (n ≤ granted h o) × (n ≤ charge h d o)
 
 -- ---- calls that ask for units
 
--- the lines of calls that take units from a container: those that create, that link, and that move units into an object
-unfoldable pub takesUnits : Line → Bool
-takesUnits nothingWritten = false
-takesUnits (made d o q) = true
-takesUnits (tied d o) = true
-takesUnits (movedIn d o n) = true
-takesUnits (movedBack d o n) = false
+-- the lines of calls that take units from a container: those that create, that link, that move units into an object, and that take units back from a container
+unfoldable pub takesUnits : World → Line → Bool
+takesUnits w nothingWritten = false
+takesUnits w (made d o q) = true
+takesUnits w (tied d o) = true
+takesUnits w (movedIn d o n) = true
+takesUnits w (movedBack d o n) = isContainer ((w .obj o) .kind)
 
 -- the object whose spare is asked: "n > 0 needs spare in D, n < 0 in O"
 unfoldable pub askedOf : Line → ℕ
@@ -111,9 +111,9 @@ unitsAsked w (tied d o) = (w .obj o) .quota
 unitsAsked w (movedIn d o n) = n
 unitsAsked w (movedBack d o n) = n
 
--- the same of a call: whether it creates, links or moves units into an object, which container it draws on, and how many units it needs there
+-- the same of a call: whether it creates, links or moves units out of a container, which container it draws on, and how many units it needs there
 abbrev pub spends : World → Call → Bool
-spends w x = takesUnits (lineIf (w .next) x)
+spends w x = takesUnits w (lineIf (w .next) x)
 
 abbrev pub draws : World → Call → ℕ
 draws w x = askedOf (lineIf (w .next) x)

@@ -10,7 +10,7 @@ use borrow.Author.Tests.{le-leb}
 use Rattle.labels.specs.Core.{mayRead}
 use Rattle.rules.specs.Kernel.{World, Obj, isContainer, isSegment, units, spareOf, Verdict, grant, must, Change, Call, createCategory, setLabel, setClearance, createContainer, createSegment, createGate, createThread, unreference, linkSegment, fixQuota, moveQuota, read, write, resize, enterGate, look, call, tests, judge, make, move, access, opens, entry, fits, containerOf, segmentOf, gateOf, threadOf, answerOf, Condition, History, worldAfter}
 use Rattle.rules.specs.Histories.{WellStarted}
-use Rattle.rules.specs.Ledger.{Line, made, tied, movedIn, lineIf, takesUnits, askedOf, unitsAsked, spends, draws, needs, refusedEarlier, reckoned}
+use Rattle.rules.specs.Ledger.{Line, made, tied, movedIn, movedBack, lineIf, takesUnits, askedOf, unitsAsked, spends, draws, needs, refusedEarlier, reckoned}
 use Rattle.rules.specs.Laws.Bools.{and-l, and-r, and-i, not-both}
 use Rattle.rules.specs.Theorems.Reckoned.{reckoned-is-spare}
 
@@ -33,7 +33,7 @@ decides false v b h = refl
 -- ---- what the answer a of a call goes by that, granted, writes the line l
 
 pub record Decided (w : World) (l : Line) (a : ℕ) : Type 0 where
-  pub is-container : takesUnits l ≡ true → isContainer ((w .obj (askedOf l)) .kind) ≡ true
+  pub is-container : takesUnits w l ≡ true → isContainer ((w .obj (askedOf l)) .kind) ≡ true
   pub answer : a ≡ cond (leb (unitsAsked w l) (spareOf w (askedOf l))) 0 13
 
 module _ (w : World) (c : ℕ) where
@@ -79,7 +79,7 @@ module _ (w : World) (c : ℕ) where
       record { is-container = λ e. opened d (and-r (entry w (w .obj c) d1 o) (opens w (w .obj c) d) p); answer = decides _ _ _ _ }
   decided-judge (fixQuota d o) s = absurd (false≢true s)
   decided-judge (moveQuota d o (pos n)) s = past-move (Decided w (movedIn d o n)) d o _ _ λ k. record { is-container = λ e. k; answer = decides _ _ _ _ }
-  decided-judge (moveQuota d o (negsuc n)) s = absurd (false≢true s)
+  decided-judge (moveQuota d o (negsuc n)) s = past-move (Decided w (movedBack d o (suc n))) d o _ _ λ k. record { is-container = λ e. e; answer = decides _ _ _ _ }
   decided-judge (read d s k f n) e = absurd (false≢true e)
   decided-judge (write d s k f n b) e = absurd (false≢true e)
   decided-judge (resize d s n) e = absurd (false≢true e)
@@ -91,7 +91,7 @@ module _ (w : World) (c : ℕ) where
 
   -- ---- by the spare in the world
 
-  -- A call that creates, links or moves units into an object, and fails no check numbered 1 to 12, is granted if the container has the units to spare, and
+  -- A call that creates, links or moves units out of a container, and fails no check numbered 1 to 12, is granted if the container has the units to spare, and
   -- else answers 13.
   pub exactly-by-spare : (x : Call) → spends w x ≡ true → refusedEarlier (answerOf (call w c x)) ≡ false
       → answerOf (call w c x) ≡ cond (leb (needs w x) (spareOf w (draws w x))) 0 13
@@ -126,8 +126,3 @@ module _ (h : History) (started-well : WellStarted h) (c : ℕ) where
   exactly x s e =
       let g = decided (worldAfter h) c x s e in
       rw (reckoned-is-spare h started-well (draws (worldAfter h) x) (g .is-container s)) (g .answer)
-
-  -- Units taken back from a container: granted if its reckoned spare has them, and else 13.
-  pub back-exactly : (d o n : ℕ) → isContainer ((worldAfter h .obj o) .kind) ≡ true → refusedEarlier (answerOf (call (worldAfter h) c (moveQuota d o (negsuc n)))) ≡ false
-      → answerOf (call (worldAfter h) c (moveQuota d o (negsuc n))) ≡ cond (leb (suc n) (reckoned h o)) 0 13
-  back-exactly d o n k e = rw (reckoned-is-spare h started-well o k) (back-by-spare (worldAfter h) c d o n e)

@@ -65,7 +65,7 @@ module _ (h : History) (started-well : WellStarted h) (o : ℕ) (live : isLive (
 
 module _ (h : History) (started-well : WellStarted h) (k : History) (c : ℕ) where
   -- A container has n units to spare by the history of grants and charges. Then any calls of neighbours come. Then a create, a link or a move of at most n
-  -- units out of it, by any caller, that passes all earlier checks: it is granted.
+  -- units out of it, into an object or back to where it is linked, by any caller, that passes all earlier checks: it is granted.
   pub room-is-kept : (d n : ℕ) → isContainer ((worldAfter h .obj d) .kind) ≡ true → n ≤ reckoned h d → Meanwhile d h k
       → (x : Call) → spends (worldAfter k) x ≡ true → draws (worldAfter k) x ≡ d → needs (worldAfter k) x ≤ n
       → refusedEarlier (answerOf (call (worldAfter k) c x)) ≡ false → answerOf (call (worldAfter k) c x) ≡ 0
