@@ -39,3 +39,4 @@ pub mod Write
 pub mod Every
 pub mod Resize
 pub mod Made
+pub mod Clear

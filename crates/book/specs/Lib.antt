@@ -14,3 +14,4 @@ pub mod Marks
 pub mod Resize
 pub mod Units
 pub mod Cut
+pub mod Clear

@@ -314,6 +314,17 @@ module _ (r n : ℕ) (v : View) (lo : length (v .owner) ≡ blockCount) (li : le
       lift : {u : View} → Held u r (blocksOf n) → Held (putT lenT r n u) r (blocksOf n)
       lift h = record { has = h .has; once = h .once; within = h .within }
 
+-- each block stays as it is after the drop, or was free then and is new
+each : (r n : ℕ) (v : View) → length (v .index) ≡ blockCount → (x : ℕ) → x < blockCount
+    → (Kept (blocksDropped r (blocksOf n) v) (blocksAdded r (blocksOf (lenOf v r)) (blocksOf n - blocksOf (lenOf v r)) (blocksDropped r (blocksOf n) v)) (replicate areaSize 0)
+    (freesCleared r (blocksOf (lenOf v r)) (blocksOf n - blocksOf (lenOf v r)) (blocksDropped r (blocksOf n) v) (replicate areaSize 0)) x)
+    ⊎ (New (blocksDropped r (blocksOf n) v) (blocksAdded r (blocksOf (lenOf v r)) (blocksOf n - blocksOf (lenOf v r)) (blocksDropped r (blocksOf n) v))
+    (freesCleared r (blocksOf (lenOf v r)) (blocksOf n - blocksOf (lenOf v r)) (blocksDropped r (blocksOf n) v) (replicate areaSize 0)) r (blocksOf (lenOf v r))
+    (blocksOf (lenOf v r) + (blocksOf n - blocksOf (lenOf v r))) x)
+each r n v li x l =
+    added-each r (blocksOf n - blocksOf (lenOf v r)) (blocksOf (lenOf v r)) (blocksDropped r (blocksOf n) v) (replicate areaSize 0)
+    (drop-long r (blocksOf n) v) (unfold blocksDropped in li) (length-replicate {A = ℕ} areaSize 0) x l
+
 -- every row but r keeps its blocks
 pub record Others (v u : View) (r : ℕ) : Type 0 where
   pub to : (s x : ℕ) → (s ≡ r → ⊥) → x < blockCount → ownerOf v x ≡ s + 1 → (ownerOf u x ≡ s + 1) × (indexOf u x ≡ indexOf v x)
@@ -329,20 +340,24 @@ lengthened-others r n v li =
           ⊎-elim {C = (ownerOf (lengthened r n v) x ≡ s + 1) × (indexOf (lengthened r n v) x ≡ indexOf v x)}
           (λ k. (k .owner ∙ d, k .index ∙ drop-index r (blocksOf n) v x l))
           (λ k. absurd (omega (arith, k .free)))
-          (each x l);
+          (each r n v li x l);
       back = λ s x ne l o.
           ⊎-elim
           (λ k. drop-from r (blocksOf n) v x l s (sym (k .owner) ∙ o) .0)
           (λ k. absurd (ne (omega (arith, k .mine))))
-          (each x l);
+          (each r n v li x l);
     }
-  where
-    each : (x : ℕ) → x < blockCount
-        → (Kept (blocksDropped r (blocksOf n) v) (blocksAdded r (blocksOf (lenOf v r)) (blocksOf n - blocksOf (lenOf v r)) (blocksDropped r (blocksOf n) v)) (replicate areaSize 0)
-        (freesCleared r (blocksOf (lenOf v r)) (blocksOf n - blocksOf (lenOf v r)) (blocksDropped r (blocksOf n) v) (replicate areaSize 0)) x)
-        ⊎ (New (blocksDropped r (blocksOf n) v) (blocksAdded r (blocksOf (lenOf v r)) (blocksOf n - blocksOf (lenOf v r)) (blocksDropped r (blocksOf n) v))
-        (freesCleared r (blocksOf (lenOf v r)) (blocksOf n - blocksOf (lenOf v r)) (blocksDropped r (blocksOf n) v) (replicate areaSize 0)) r (blocksOf (lenOf v r))
-        (blocksOf (lenOf v r) + (blocksOf n - blocksOf (lenOf v r))) x)
-    each x l =
-        added-each r (blocksOf n - blocksOf (lenOf v r)) (blocksOf (lenOf v r)) (blocksDropped r (blocksOf n) v) (replicate areaSize 0)
-        (drop-long r (blocksOf n) v) (unfold blocksDropped in li) (length-replicate {A = ℕ} areaSize 0) x l
+
+-- A block that row r had and has is the same of its blocks.
+pub lengthened-mine : (r n : ℕ) (v : View) → length (v .index) ≡ blockCount → Held v r (blocksOf (lenOf v r))
+    → (x : ℕ) → x < blockCount → ownerOf v x ≡ r + 1 → ownerOf (lengthened r n v) x ≡ r + 1 → indexOf (lengthened r n v) x ≡ indexOf v x
+unfolding lengthened
+lengthened-mine r n v li h x l o q =
+    ⊎-elim
+    (λ k. k .index ∙ drop-index r (blocksOf n) v x l)
+    (λ k. absurd (bool-cases (isPast v r (blocksOf n) x)
+    (λ t.
+    let past = leb-true (blocksOf n) (indexOf v x) (both-parts (eqb (ownerOf v x) (r + 1)) (leb (blocksOf n) (indexOf v x)) t .1) in
+    omega (arith, h .within x l o, k .low, k .high))
+    (λ t. omega (arith, k .free, drop-keep r (blocksOf n) v x l t))))
+    (each r n v li x l)
