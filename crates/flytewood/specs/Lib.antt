@@ -1,2 +1,3 @@
 -- What the exported functions promise.
-pub mod Said
+pub mod Called
+pub mod Laws

@@ -1,13 +1,13 @@
 // The kernel's C interface: each function thin over one of `calls`, with the whole contract and no requires.
 ghost use mathlib.Core.Path.{_≡_};
 ghost use mathlib.Core.Bool.{cond};
+ghost use mathlib.Core.List.{[]};
 ghost use lib.Dec.{eqb};
 ghost use lib.ListN.{length};
 ghost use Rattle.rules.specs.Kernel as kernel;
 ghost use Rattle.tables.specs.Layout.{size};
-ghost use Rattle.calls.specs.Outcome.{numberOf, valueIn, outputLeft, verdictOn};
-ghost use Rattle.calls.specs.Started.{Started};
-ghost use Rattle.flytewood.specs.Said.{Said, ReadAs};
+ghost use Rattle.calls.specs.Outcome.{numberOf, valueIn};
+ghost use Rattle.flytewood.specs.Called.{Called, Started, ReadAs};
 use calls::Answer;
 use calls::create_category::create_category;
 use calls::create_container::create_container;
@@ -29,7 +29,7 @@ use calls::unreference::unreference;
 use calls::write::write;
 use tables::BOOK_LEN;
 
-// Spreads an answer into page 01's number and value.
+// Spreads an answer into its number (RULES 6) and value.
 fn spread(answer: Answer, value: &mut u64) -> u64
     ensures { λ r. ⌜ (r ≡ numberOf answer) × (now (value .exit) ≡ valueIn answer) ⌝ }
 {
@@ -69,7 +69,7 @@ pub extern "C" fn fw_create_category(
     caller: u64,
     value: &mut u64,
 ) -> u64
-    ensures { λ r. ⌜ Said (now (b .entry)) (now (area .entry)) caller kernel.createCategory r (now (value .exit)) (now (b .exit)) (now (area .exit)) ⌝ }
+    ensures { λ r. ⌜ Called (now (b .entry)) (now (area .entry)) caller kernel.createCategory [] r (now (value .exit)) (now (b .exit)) (now (area .exit)) [] ⌝ }
 {
     spread(create_category(b, area, caller), value)
 }
@@ -83,7 +83,7 @@ pub extern "C" fn fw_set_label(
     label: &[u8],
     value: &mut u64,
 ) -> u64
-    ensures { λ r. ⌜ Said (now (b .entry)) (now (area .entry)) caller (kernel.setLabel (now (label .entry))) r (now (value .exit)) (now (b .exit)) (now (area .exit)) ⌝ }
+    ensures { λ r. ⌜ Called (now (b .entry)) (now (area .entry)) caller (kernel.setLabel (now (label .entry))) [] r (now (value .exit)) (now (b .exit)) (now (area .exit)) [] ⌝ }
 {
     spread(set_label(b, area, caller, label), value)
 }
@@ -97,7 +97,7 @@ pub extern "C" fn fw_set_clearance(
     clearance: &[u8],
     value: &mut u64,
 ) -> u64
-    ensures { λ r. ⌜ Said (now (b .entry)) (now (area .entry)) caller (kernel.setClearance (now (clearance .entry))) r (now (value .exit)) (now (b .exit)) (now (area .exit)) ⌝ }
+    ensures { λ r. ⌜ Called (now (b .entry)) (now (area .entry)) caller (kernel.setClearance (now (clearance .entry))) [] r (now (value .exit)) (now (b .exit)) (now (area .exit)) [] ⌝ }
 {
     spread(set_clearance(b, area, caller, clearance), value)
 }
@@ -115,7 +115,7 @@ pub extern "C" fn fw_create_container(
     quota: u64,
     value: &mut u64,
 ) -> u64
-    ensures { λ r. ⌜ Said (now (b .entry)) (now (area .entry)) caller (kernel.createContainer d (now (label .entry)) (now (description .entry)) mask quota) r (now (value .exit)) (now (b .exit)) (now (area .exit)) ⌝ }
+    ensures { λ r. ⌜ Called (now (b .entry)) (now (area .entry)) caller (kernel.createContainer d (now (label .entry)) (now (description .entry)) mask quota) [] r (now (value .exit)) (now (b .exit)) (now (area .exit)) [] ⌝ }
 {
     spread(
         create_container(b, area, caller, d, label, description, mask, quota),
@@ -135,7 +135,7 @@ pub extern "C" fn fw_create_segment(
     quota: u64,
     value: &mut u64,
 ) -> u64
-    ensures { λ r. ⌜ Said (now (b .entry)) (now (area .entry)) caller (kernel.createSegment d (now (label .entry)) (now (description .entry)) quota) r (now (value .exit)) (now (b .exit)) (now (area .exit)) ⌝ }
+    ensures { λ r. ⌜ Called (now (b .entry)) (now (area .entry)) caller (kernel.createSegment d (now (label .entry)) (now (description .entry)) quota) [] r (now (value .exit)) (now (b .exit)) (now (area .exit)) [] ⌝ }
 {
     spread(
         create_segment(b, area, caller, d, label, description, quota),
@@ -157,7 +157,7 @@ pub extern "C" fn fw_create_gate(
     description: &[u8],
     value: &mut u64,
 ) -> u64
-    ensures { λ r. ⌜ Said (now (b .entry)) (now (area .entry)) caller (kernel.createGate d (now (label .entry)) (now (clearance .entry)) number (now (closure .entry)) (now (description .entry))) r (now (value .exit)) (now (b .exit)) (now (area .exit)) ⌝ }
+    ensures { λ r. ⌜ Called (now (b .entry)) (now (area .entry)) caller (kernel.createGate d (now (label .entry)) (now (clearance .entry)) number (now (closure .entry)) (now (description .entry))) [] r (now (value .exit)) (now (b .exit)) (now (area .exit)) [] ⌝ }
 {
     spread(
         create_gate(
@@ -187,7 +187,7 @@ pub extern "C" fn fw_create_thread(
     description: &[u8],
     value: &mut u64,
 ) -> u64
-    ensures { λ r. ⌜ Said (now (b .entry)) (now (area .entry)) caller (kernel.createThread d (now (label .entry)) (now (clearance .entry)) (now (description .entry))) r (now (value .exit)) (now (b .exit)) (now (area .exit)) ⌝ }
+    ensures { λ r. ⌜ Called (now (b .entry)) (now (area .entry)) caller (kernel.createThread d (now (label .entry)) (now (clearance .entry)) (now (description .entry))) [] r (now (value .exit)) (now (b .exit)) (now (area .exit)) [] ⌝ }
 {
     spread(
         create_thread(b, area, caller, d, label, clearance, description),
@@ -205,7 +205,7 @@ pub extern "C" fn fw_unreference(
     o: u64,
     value: &mut u64,
 ) -> u64
-    ensures { λ r. ⌜ Said (now (b .entry)) (now (area .entry)) caller (kernel.unreference d o) r (now (value .exit)) (now (b .exit)) (now (area .exit)) ⌝ }
+    ensures { λ r. ⌜ Called (now (b .entry)) (now (area .entry)) caller (kernel.unreference d o) [] r (now (value .exit)) (now (b .exit)) (now (area .exit)) [] ⌝ }
 {
     spread(unreference(b, area, caller, d, o), value)
 }
@@ -221,7 +221,7 @@ pub extern "C" fn fw_link_segment(
     d: u64,
     value: &mut u64,
 ) -> u64
-    ensures { λ r. ⌜ Said (now (b .entry)) (now (area .entry)) caller (kernel.linkSegment d1 o d) r (now (value .exit)) (now (b .exit)) (now (area .exit)) ⌝ }
+    ensures { λ r. ⌜ Called (now (b .entry)) (now (area .entry)) caller (kernel.linkSegment d1 o d) [] r (now (value .exit)) (now (b .exit)) (now (area .exit)) [] ⌝ }
 {
     spread(link_segment(b, area, caller, d1, o, d), value)
 }
@@ -236,7 +236,7 @@ pub extern "C" fn fw_fix_quota(
     o: u64,
     value: &mut u64,
 ) -> u64
-    ensures { λ r. ⌜ Said (now (b .entry)) (now (area .entry)) caller (kernel.fixQuota d o) r (now (value .exit)) (now (b .exit)) (now (area .exit)) ⌝ }
+    ensures { λ r. ⌜ Called (now (b .entry)) (now (area .entry)) caller (kernel.fixQuota d o) [] r (now (value .exit)) (now (b .exit)) (now (area .exit)) [] ⌝ }
 {
     spread(fix_quota(b, area, caller, d, o), value)
 }
@@ -252,7 +252,7 @@ pub extern "C" fn fw_move_quota(
     n: i64,
     value: &mut u64,
 ) -> u64
-    ensures { λ r. ⌜ Said (now (b .entry)) (now (area .entry)) caller (kernel.moveQuota d o n) r (now (value .exit)) (now (b .exit)) (now (area .exit)) ⌝ }
+    ensures { λ r. ⌜ Called (now (b .entry)) (now (area .entry)) caller (kernel.moveQuota d o n) [] r (now (value .exit)) (now (b .exit)) (now (area .exit)) [] ⌝ }
 {
     spread(move_quota(b, area, caller, d, o, n), value)
 }
@@ -271,7 +271,7 @@ pub extern "C" fn fw_write(
     bytes: &[u8],
     value: &mut u64,
 ) -> u64
-    ensures { λ r. ⌜ Said (now (b .entry)) (now (area .entry)) caller (kernel.write d s k from count (now (bytes .entry))) r (now (value .exit)) (now (b .exit)) (now (area .exit)) ⌝ }
+    ensures { λ r. ⌜ Called (now (b .entry)) (now (area .entry)) caller (kernel.write d s k from count (now (bytes .entry))) [] r (now (value .exit)) (now (b .exit)) (now (area .exit)) [] ⌝ }
 {
     spread(write(b, area, caller, d, s, k, from, count, bytes), value)
 }
@@ -287,7 +287,7 @@ pub extern "C" fn fw_resize(
     length: u64,
     value: &mut u64,
 ) -> u64
-    ensures { λ r. ⌜ Said (now (b .entry)) (now (area .entry)) caller (kernel.resize d s length) r (now (value .exit)) (now (b .exit)) (now (area .exit)) ⌝ }
+    ensures { λ r. ⌜ Called (now (b .entry)) (now (area .entry)) caller (kernel.resize d s length) [] r (now (value .exit)) (now (b .exit)) (now (area .exit)) [] ⌝ }
 {
     spread(resize(b, area, caller, d, s, length), value)
 }
@@ -306,7 +306,7 @@ pub extern "C" fn fw_enter_gate(
     out: &mut [u8],
     value: &mut u64,
 ) -> u64
-    ensures { λ r. ⌜ Said (now (b .entry)) (now (area .entry)) caller (kernel.enterGate d g (now (given .entry)) (now (cleared .entry)) (now (verify .entry)) (length (now (out .entry)))) r (now (value .exit)) (now (b .exit)) (now (area .exit)) × (now (out .exit) ≡ outputLeft (verdictOn (now (b .entry)) (now (area .entry)) caller (kernel.enterGate d g (now (given .entry)) (now (cleared .entry)) (now (verify .entry)) (length (now (out .entry))))) (now (out .entry))) ⌝ }
+    ensures { λ r. ⌜ Called (now (b .entry)) (now (area .entry)) caller (kernel.enterGate d g (now (given .entry)) (now (cleared .entry)) (now (verify .entry)) (length (now (out .entry)))) (now (out .entry)) r (now (value .exit)) (now (b .exit)) (now (area .exit)) (now (out .exit)) ⌝ }
 {
     spread(
         enter_gate(b, area, caller, d, g, given, cleared, verify, out),
@@ -325,7 +325,7 @@ pub extern "C" fn fw_look(
     out: &mut [u8],
     value: &mut u64,
 ) -> u64
-    ensures { λ r. ⌜ Said (now (b .entry)) (now (area .entry)) caller (kernel.look d o (length (now (out .entry)))) r (now (value .exit)) (now (b .exit)) (now (area .exit)) × (now (out .exit) ≡ outputLeft (verdictOn (now (b .entry)) (now (area .entry)) caller (kernel.look d o (length (now (out .entry))))) (now (out .entry))) ⌝ }
+    ensures { λ r. ⌜ Called (now (b .entry)) (now (area .entry)) caller (kernel.look d o (length (now (out .entry)))) (now (out .entry)) r (now (value .exit)) (now (b .exit)) (now (area .exit)) (now (out .exit)) ⌝ }
 {
     spread(look(b, area, caller, d, o, out), value)
 }
@@ -355,7 +355,7 @@ pub extern "C" fn fw_read(
     length: &mut u64,
     value: &mut u64,
 ) -> u64
-    ensures { λ r. ⌜ ReadAs (now (b .entry)) (now (area .entry)) caller d s k from count r (now (value .exit)) (now (place .exit)) (now (length .exit)) (now (b .exit)) × (now (area .exit) ≡ now (area .entry)) ⌝ }
+    ensures { λ r. ⌜ ReadAs (now (b .entry)) (now (area .entry)) caller d s k from count r (now (value .exit)) (now (place .exit)) (now (length .exit)) (now (b .exit)) (now (area .exit)) ⌝ }
 {
     *value = 0;
     match locate(b, area, caller, d, s, k, from, count) {

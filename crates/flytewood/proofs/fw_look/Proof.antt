@@ -1,4 +1,4 @@
-use Rattle.flytewood.specs.Said.{said}
+use Rattle.flytewood.specs.Laws.{with-buffer}
 use borrow.Author.Needs.{needs}
 use Rattle.flytewood.proofs.fw_look.Statement.{statement}
 use Rattle.flytewood.proofs.fw_look.Tie as tie
@@ -19,7 +19,9 @@ same-length-3 : tie.Need-same-length-3
 same-length-3 c = search needs
 
 returns : tie.Need-returns
-returns c = (said _ _ _ _ _ _ _ _ _ (c .spread .ensures .0) (c .spread .ensures .1) (c .before .before .before .before .before .before .before .before .look .ensures .0), c .before .before .before .before .before .before .before .before .look .ensures .1)
+returns c =
+    with-buffer _ _ _ _ _ _ _ _ _ (c .spread .ensures .0) (c .spread .ensures .1) (c .before .before .before .before .before .before .before .before .look .ensures .0)
+    (c .before .before .before .before .before .before .slice-known4 .given) (c .before .before .before .before .slice-known5 .given) _ _ (c .before .before .before .before .before .before .before .before .look .ensures .1)
 
 pub fw-look-spec : {M : Type 1} → statement M
 fw-look-spec =

@@ -1,6 +1,6 @@
-use mathlib.Core.Path.{refl, subst}
+use mathlib.Core.Path.{subst}
 use Rattle.calls.specs.Read.{LocatedAs}
-use Rattle.flytewood.specs.Said.{read-granted, read-refused}
+use Rattle.flytewood.specs.Laws.{read-granted, read-refused}
 use borrow.Author.Needs.{needs}
 use Rattle.flytewood.proofs.fw_read.Statement.{statement}
 use Rattle.flytewood.proofs.fw_read.Tie as tie
@@ -25,7 +25,8 @@ same-length-2 c = search needs
 
 returns : tie.Need-returns
 returns c =
-    (read-granted _ _ _ _ _ _ _ _ _ _ _ _ (subst (LocatedAs _ _ _ _ _ _ _ _ _) (c .before .before .p .given .1) (c .before .before .before .before .before .before .locate .ensures)) (c .place-given .ensures), refl)
+    read-granted _ _ _ _ _ _ _ _ _ (c .before .before .before .before .slice-known3 .given) (c .before .before .before .before .before .before .before .before .before .slice-known2 .given) _ _ _
+    (subst (LocatedAs _ _ _ _ _ _ _ _ _) (c .before .before .p .given .1) (c .before .before .before .before .before .before .locate .ensures)) (c .place-given .ensures)
 
 same-length-3 : tie.Need-same-length-3
 same-length-3 c = search needs
@@ -34,7 +35,9 @@ same-length-4 : tie.Need-same-length-4
 same-length-4 c = search needs
 
 returns-2 : tie.Need-returns-2
-returns-2 c = (read-refused _ _ _ _ _ _ _ _ _ _ (subst (LocatedAs _ _ _ _ _ _ _ _ _) (c .before .n .given .1) (c .before .before .before .before .before .locate .ensures)), refl)
+returns-2 c =
+    read-refused _ _ _ _ _ _ _ _ _ (c .before .before .before .slice-known3 .given) (c .before .before .before .before .before .before .before .before .slice-known2 .given) _
+    (subst (LocatedAs _ _ _ _ _ _ _ _ _) (c .before .n .given .1) (c .before .before .before .before .before .locate .ensures))
 
 pub fw-read-spec : {M : Type 1} → statement M
 fw-read-spec =
