@@ -1,4 +1,4 @@
--- Page 01's day as a history, in the steps in which the program takes it; the labels and the description are those that are lent.
+-- The day of docs/RULES.md 10.2 as a history, in the steps in which the program takes it; the labels and the description are those that are lent.
 use Prim.Native.Nat.{ℕ}
 use mathlib.Core.Bool.{true}
 use mathlib.Core.Path.{_≡_, refl}
@@ -38,7 +38,7 @@ pub can-start : startable 100 ≡ true
 unfolding startable
 can-start = refl
 
--- With page 01's labels it is page 01's day.
+-- With that day's labels it is that day.
 pub page-01 : day one two tainted zeros32 ≡ wholeDay
 unfolding wholeDay filled oneMore crowding fill granting grown morning room list
 page-01 = refl

@@ -1,4 +1,4 @@
-// Page 01's day, run on the kernel: one line a call, with its number, caller, call, answer and value.
+// The day of docs/RULES.md 10.2, run on the kernel: one line a call, with its number, caller, call, answer and value.
 ghost use Prim.Native.Nat.{_<_};
 ghost use mathlib.Core.Path.{_≡_};
 ghost use lib.ListN.{length};

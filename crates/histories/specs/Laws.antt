@@ -1,5 +1,4 @@
 -- From areas to worlds, and back.
 pub mod Refused
 pub mod Spelled
-pub mod Exports
 pub mod Alike

@@ -5,5 +5,6 @@ pub mod Unseen
 pub mod Laws
 pub mod Theorems
 pub mod Programs
+pub mod Unable
 pub mod Day
 pub mod TwoDays

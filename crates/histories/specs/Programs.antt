@@ -1,107 +1,94 @@
--- Page 01: "Four programs must be unable to satisfy them". Each is stated as a kind of program. One that met the contracts could do nothing at all on a certain call of page
--- 01's day, so there it would not end; and every exported function is proved to end.
-use Prim.Native.Nat.{ℕ, _≤_, _<_}
-use native.Mathlib.Omega.{arith}
+-- Four programs must be unable to satisfy the contracts: a kernel that always refuses, one that answers 0 to all, one that changes nothing, and one that honours the first
+-- create and only pretends afterwards. Each is a kind of program, and of each is said: no program that ends on everything it can be handed, and meets the contracts of the
+-- exported functions, is of that kind. Start is part of the program, so it makes its areas itself. Unable has the proofs.
+use Prim.Native.Nat.{ℕ, _<_, _^_}
 use mathlib.Core.Bool.{Bool, true, false, _&&_, _||_}
-use mathlib.Core.Path.{_≡_, refl, sym, ap, subst, _∙_}
-use mathlib.Core.List.{List}
+use mathlib.Core.Path.{_≡_}
+use mathlib.Core.List.{List, []}
+use lib.ListN.{length}
 use lib.Dec.{eqb}
-use Rattle.rules.specs.Kernel.{World, Call, createCategory, isLive, call, after, answerOf, valueOf, History, started, next, worldAfter}
-use Rattle.rules.specs.Sound.{Sound}
-use Rattle.rules.specs.Issued.{callNumber, creates, issues}
-use Rattle.rules.specs.Laws.Bools.{bool-cases, not-both, or-i-r}
-use Rattle.rules.specs.Theorems.StaysSound.{history-sound}
-use Rattle.rules.specs.Theorems.Numbers.{issuing-value, created-live}
-use Rattle.examples.specs.Met.{room, list, morning, OfTheDay, of-the-day}
-use Rattle.histories.specs.Areas.{world, Called, After}
-use Rattle.histories.specs.Laws.Spelled.{spelled, ruled}
-use Rattle.histories.specs.Theorems.{demand-2}
+use lib.IntN.{ℤ, pos, negsuc}
+use Rattle.rules.specs.Kernel.{Call, createCategory, setLabel, setClearance, createContainer, createSegment, createGate, createThread, unreference, linkSegment, fixQuota, moveQuota, read, write, resize, enterGate, look, call, answerOf, History, started, next, worldAfter}
+use Rattle.rules.specs.Issued.{creates}
+use Rattle.flytewood.specs.Called.{Bytes, Called, Started}
+use Rattle.histories.specs.Areas.{world, After}
 
--- A program, as what it may do: for the call x by c on the areas b and `area`, with `out` lent, return answer and value and leave b′, area′ and out′.
-abbrev pub Program : Type 1
-Program = (b area : List ℕ) (c : ℕ) (x : Call) (out : List ℕ) (answer value : ℕ) (b′ area′ out′ : List ℕ) → Type 0
+-- ---- what a host can hand over
 
--- whatever it does meets the contract
-abbrev pub Meets : Program → Type 0
-Meets p =
-    (b area : List ℕ) (c : ℕ) (x : Call) (out : List ℕ) (answer value : ℕ) (b′ area′ out′ : List ℕ) → p b area c x out answer value b′ area′ out′
-    → Called b area c x out answer value b′ area′ out′
+-- numbers of 64 bits, without a sign and with one
+abbrev pub Word : ℕ → Type 0
+Word n = n < 2 ^ 64
 
--- it does nothing on this call
-abbrev pub CannotEnd : Program → List ℕ → List ℕ → ℕ → Call → Type 0
-CannotEnd p b area c x = (out : List ℕ) (answer value : ℕ) (b′ area′ out′ : List ℕ) → p b area c x out answer value b′ area′ out′ → ⊥
+abbrev pub Signed : ℤ → Type 0
+Signed (pos n) = n < 2 ^ 63
+Signed (negsuc n) = n < 2 ^ 63
+
+-- with a call: such numbers, bytes, and for the two calls that have an output a buffer as long as is said
+abbrev pub Handed : Call → List ℕ → Type 0
+Handed createCategory out = out ≡ []
+Handed (setLabel l) out = Bytes l × (out ≡ [])
+Handed (setClearance l) out = Bytes l × (out ≡ [])
+Handed (createContainer d l s m q) out = Word d × Bytes l × Bytes s × Word m × Word q × (out ≡ [])
+Handed (createSegment d l s q) out = Word d × Bytes l × Bytes s × Word q × (out ≡ [])
+Handed (createGate d l k e x s) out = Word d × Bytes l × Bytes k × Word e × Bytes x × Bytes s × (out ≡ [])
+Handed (createThread d l k s) out = Word d × Bytes l × Bytes k × Bytes s × (out ≡ [])
+Handed (unreference d o) out = Word d × Word o × (out ≡ [])
+Handed (linkSegment d1 o d) out = Word d1 × Word o × Word d × (out ≡ [])
+Handed (fixQuota d o) out = Word d × Word o × (out ≡ [])
+Handed (moveQuota d o n) out = Word d × Word o × Signed n × (out ≡ [])
+Handed (read d s k f n) out = Word d × Word s × Word k × Word f × Word n × (out ≡ [])
+Handed (write d s k f n b) out = Word d × Word s × Word k × Word f × Word n × Bytes b × (out ≡ [])
+Handed (resize d s n) out = Word d × Word s × Word n × (out ≡ [])
+Handed (enterGate d g l k v n) out = Word d × Word g × Bytes l × Bytes k × Bytes v × Bytes out × (length out ≡ n)
+Handed (look d o n) out = Word d × Word o × Bytes out × (length out ≡ n)
+
+-- ---- programs
+
+-- A program, as what it may do: Start at f on the areas b and `area`; and the call x by c on them, with `out` lent. Both return an answer and leave b′ and area′.
+pub record Program : Type 1 where
+  pub starts : (b area : List ℕ) (f answer : ℕ) (b′ area′ : List ℕ) → Type 0
+  pub does : (b area : List ℕ) (c : ℕ) (x : Call) (out : List ℕ) (answer value : ℕ) (b′ area′ out′ : List ℕ) → Type 0
+
+-- "Each call must end, whatever bytes, ids, labels and lengths it is handed": it does something on everything that it can be handed.
+pub record Ends (p : Program) : Type 0 where
+  pub start-ends : (b area : List ℕ) (f : ℕ) → Bytes b → Bytes area → Word f → (answer : ℕ) × (b′ : List ℕ) × (area′ : List ℕ) × p .starts b area f answer b′ area′
+  pub call-ends : (b area : List ℕ) (c : ℕ) (x : Call) (out : List ℕ) → Bytes b → Bytes area → Word c → Handed x out
+      → (answer : ℕ) × (value : ℕ) × (b′ : List ℕ) × (area′ : List ℕ) × (out′ : List ℕ) × p .does b area c x out answer value b′ area′ out′
+
+-- whatever it does meets the contracts of the exported functions
+pub record Meets (p : Program) : Type 0 where
+  pub start-meets : (b area : List ℕ) (f answer : ℕ) (b′ area′ : List ℕ) → p .starts b area f answer b′ area′ → Started b area f answer b′ area′
+  pub call-meets : (b area : List ℕ) (c : ℕ) (x : Call) (out : List ℕ) (answer value : ℕ) (b′ area′ out′ : List ℕ) → p .does b area c x out answer value b′ area′ out′
+      → Called b area c x out answer value b′ area′ out′
 
 -- ---- "a kernel that always refuses"
 
 abbrev pub AlwaysRefuses : Program → Type 0
 AlwaysRefuses p =
-    (b area : List ℕ) (c : ℕ) (x : Call) (out : List ℕ) (answer value : ℕ) (b′ area′ out′ : List ℕ) → p b area c x out answer value b′ area′ out′ → answer ≡ 0 → ⊥
+    (b area : List ℕ) (c : ℕ) (x : Call) (out : List ℕ) (answer value : ℕ) (b′ area′ out′ : List ℕ) → p .does b area c x out answer value b′ area′ out′ → answer ≡ 0 → ⊥
 
--- It cannot answer call 102.
-pub not-always-refuses : (p : Program) → Meets p → AlwaysRefuses p → (b area : List ℕ) → After (started 100) b area → CannotEnd p b area 101 createCategory
-not-always-refuses p meets refuses b area a out answer value b′ area′ out′ q =
-    let r = demand-2 (started 100) b area a 101 createCategory out answer value b′ area′ out′ (meets b area 101 createCategory out answer value b′ area′ out′ q) in
-    refuses b area 101 createCategory out answer value b′ area′ out′ q (r .answer-is ∙ of-the-day .category)
+abbrev pub NotAlwaysRefuses : Type 1
+NotAlwaysRefuses = (p : Program) → Ends p → Meets p → AlwaysRefuses p → ⊥
 
 -- ---- "and one that answers 0 to all"
 
 abbrev pub AnswersZero : Program → Type 0
 AnswersZero p =
-    (b area : List ℕ) (c : ℕ) (x : Call) (out : List ℕ) (answer value : ℕ) (b′ area′ out′ : List ℕ) → p b area c x out answer value b′ area′ out′ → answer ≡ 0
+    (b area : List ℕ) (c : ℕ) (x : Call) (out : List ℕ) (answer value : ℕ) (b′ area′ out′ : List ℕ) → p .does b area c x out answer value b′ area′ out′ → answer ≡ 0
 
--- It cannot answer a caller that is no thread, as 111 in call 116.
-pub not-answers-zero : (p : Program) → Meets p → AnswersZero p → (b area : List ℕ) → After (started 100) b area → CannotEnd p b area 111 createCategory
-not-answers-zero p meets grants b area a out answer value b′ area′ out′ q =
-    let r = demand-2 (started 100) b area a 111 createCategory out answer value b′ area′ out′ (meets b area 111 createCategory out answer value b′ area′ out′ q) in
-    let z = r .answer-is ∙ of-the-day .stranger in
-    let e = grants b area 111 createCategory out answer value b′ area′ out′ q in
-    omega arith
-
--- ---- a granted create
-
--- The object that a granted create answers is there after it, and was not before.
-pub create-is-there : (h : History) (b area : List ℕ) → After h b area
-    → (c : ℕ) (x : Call) (out : List ℕ) (answer value : ℕ) (b′ area′ out′ : List ℕ) → Called b area c x out answer value b′ area′ out′ → creates x ≡ true → answer ≡ 0
-    → (isLive ((world b′ area′ .obj value) .kind) ≡ true) × (isLive ((world b area .obj value) .kind) ≡ false)
-create-is-there h b area a c x out answer value b′ area′ out′ d made granted =
-    let p = spelled h b area a in
-    let r = ruled h b area p c x out answer value b′ area′ out′ d in
-    let zero = sym (r .answer-is) ∙ granted in
-    let own : value ≡ worldAfter h .next = r .value-is ∙ issuing-value (worldAfter h) c x zero (unfold issues in or-i-r (eqb (callNumber x) 1) (creates x) made) in (
-      subst (λ (w : World). isLive ((w .obj value) .kind) ≡ true) (sym (r .world-is))
-          (subst (λ (o : ℕ). isLive ((after (worldAfter h) c x .obj o) .kind) ≡ true) (sym own) (created-live (worldAfter h) c x zero made)),
-      subst (λ (w : World). isLive ((w .obj value) .kind) ≡ false) (sym (p .spells)) (new own),
-    )
-  where
-    new : value ≡ worldAfter h .next → isLive ((worldAfter h .obj value) .kind) ≡ false
-    new own =
-        bool-cases (isLive ((worldAfter h .obj value) .kind))
-        (λ l. absurd (let below = history-sound h (spelled h b area a .started-well) .ids value l in omega (arith, below .1, own)))
-        (λ l. l)
-
--- so a program that leaves the objects as they were cannot have answered 0 to it
-unchanged-refused : (h : History) (b area : List ℕ) → After h b area
-    → (c : ℕ) (x : Call) (out : List ℕ) (answer value : ℕ) (b′ area′ out′ : List ℕ) → Called b area c x out answer value b′ area′ out′ → creates x ≡ true
-    → ((o : ℕ) → world b′ area′ .obj o ≡ world b area .obj o) → answerOf (call (worldAfter h) c x) ≡ 0 → ⊥
-unchanged-refused h b area a c x out answer value b′ area′ out′ d made same zero =
-    let r = demand-2 h b area a c x out answer value b′ area′ out′ d in
-    let there = create-is-there h b area a c x out answer value b′ area′ out′ d made (r .answer-is ∙ zero) in
-    not-both (isLive ((world b′ area′ .obj value) .kind)) (there .0) (ap (λ y. isLive (y .kind)) (same value) ∙ there .1)
+abbrev pub NotAnswersZero : Type 1
+NotAnswersZero = (p : Program) → Ends p → Meets p → AnswersZero p → ⊥
 
 -- ---- "one that changes nothing (the links and bytes of demand 2)"
 
 -- it may even move its number on
 abbrev pub ChangesNothing : Program → Type 0
 ChangesNothing p =
-    (b area : List ℕ) (c : ℕ) (x : Call) (out : List ℕ) (answer value : ℕ) (b′ area′ out′ : List ℕ) → p b area c x out answer value b′ area′ out′
+    (b area : List ℕ) (c : ℕ) (x : Call) (out : List ℕ) (answer value : ℕ) (b′ area′ out′ : List ℕ) → p .does b area c x out answer value b′ area′ out′
     → (o : ℕ) → world b′ area′ .obj o ≡ world b area .obj o
 
--- It cannot answer call 103, the first create.
-pub not-changes-nothing : (p : Program) → Meets p → ChangesNothing p → (b area : List ℕ) → After (next (started 100) 101 createCategory) b area
-    → CannotEnd p b area 101 room
-not-changes-nothing p meets same b area a out answer value b′ area′ out′ q =
-    unchanged-refused (next (started 100) 101 createCategory) b area a 101 room out answer value b′ area′ out′ (meets b area 101 room out answer value b′ area′ out′ q)
-    (unfold room creates callNumber in refl) (same b area 101 room out answer value b′ area′ out′ q) (of-the-day .first-create)
+abbrev pub NotChangesNothing : Type 1
+NotChangesNothing = (p : Program) → Ends p → Meets p → ChangesNothing p → ⊥
 
 -- ---- "one that honours the first create and only pretends afterwards (the history in demand 3)"
 
@@ -114,17 +101,8 @@ hasCreated (next h c x) = (creates x && eqb (answerOf (call (worldAfter h) c x))
 abbrev pub OnlyPretends : Program → Type 0
 OnlyPretends p =
     (h : History) (b area : List ℕ) → After h b area → hasCreated h ≡ true
-    → (c : ℕ) (x : Call) (out : List ℕ) (answer value : ℕ) (b′ area′ out′ : List ℕ) → creates x ≡ true → p b area c x out answer value b′ area′ out′
+    → (c : ℕ) (x : Call) (out : List ℕ) (answer value : ℕ) (b′ area′ out′ : List ℕ) → creates x ≡ true → p .does b area c x out answer value b′ area′ out′
     → (o : ℕ) → world b′ area′ .obj o ≡ world b area .obj o
 
--- It cannot answer call 104, the second create.
-pub not-only-pretends : (p : Program) → Meets p → OnlyPretends p → (b area : List ℕ) → After morning b area → CannotEnd p b area 101 list
-not-only-pretends p meets pretends b area a out answer value b′ area′ out′ q =
-    unchanged-refused morning b area a 101 list out answer value b′ area′ out′ (meets b area 101 list out answer value b′ area′ out′ q) is-create
-    (pretends morning b area a created 101 list out answer value b′ area′ out′ is-create q) (of-the-day .second-create)
-  where
-    is-create : creates list ≡ true
-    is-create = unfold list creates callNumber in refl
-
-    created : hasCreated morning ≡ true
-    created = unfold morning hasCreated room creates callNumber in rw (of-the-day .first-create)
+abbrev pub NotOnlyPretends : Type 1
+NotOnlyPretends = (p : Program) → Ends p → Meets p → OnlyPretends p → ⊥

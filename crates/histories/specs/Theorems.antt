@@ -1,14 +1,15 @@
 -- The demands are met, and W5. Each statement stands in Demands, or in Unseen.
-use Prim.Native.Nat.{ℕ, suc, _+_, _*_, _≤_, _<_}
+use Prim.Native.Nat.{ℕ, _+_, _*_, _≤_, _<_}
+use native.Mathlib.Decide.{ℕ-discrete}
 use native.Mathlib.Omega.{arith}
 use mathlib.Core.Bool.{Bool, true, false, cond}
 use mathlib.Core.Path.{_≡_, refl, sym, ap, ap₂, subst, _∙_}
 use mathlib.Core.List.{List, [], _∷_}
 use lib.ListN.{length, getD}
-use lib.Dec.{leb}
-use lib.IntN.{negsuc}
+use lib.Dec.{eqb, leb}
+use borrow.Author.Tests.{eqb-true, eq-eqb}
 use Rattle.quotas.specs.Sum.{Σ, when}
-use Rattle.rules.specs.Kernel.{World, Call, read, moveQuota, resize, isLive, isContainer, isSegment, units, holdOf, spareOf, startable, call, after, answerOf, valueOf, Verdict, History, started, next, worldAfter, blockSize}
+use Rattle.rules.specs.Kernel.{World, Call, read, resize, isLive, isContainer, isSegment, units, holdOf, spareOf, startable, call, after, answerOf, valueOf, Verdict, History, started, next, worldAfter, blockSize}
 use Rattle.rules.specs.Answers.{oneOf}
 use Rattle.rules.specs.Trees.{inTree}
 use Rattle.rules.specs.Written.{lastWritten}
@@ -16,33 +17,39 @@ use Rattle.rules.specs.Ledger.{reckoned, spends, draws, needs, refusedEarlier, 
 use Rattle.rules.specs.Theorems.Refusals.{never-one}
 use Rattle.rules.specs.Theorems.Holds.{history-tree-holds}
 use Rattle.rules.specs.Theorems.Reckoned.{reckoned-is-spare}
-use Rattle.rules.specs.Theorems.Exactly.{exactly, back-exactly}
+use Rattle.rules.specs.Theorems.Exactly.{exactly}
 use Rattle.rules.specs.Theorems.Shrinks.{reckoned-shrinks-by}
 use Rattle.rules.specs.Theorems.Reads.{read-shows}
 use Rattle.rules.specs.Theorems.Granted.{room-is-kept, growth-is-kept}
 use Rattle.rules.specs.Theorems.StaysSound.{history-sound}
 use Rattle.tainted.specs.Tainted.{untaintedCaller, SameUntainted}
 use Rattle.tainted.specs.Theorem.{tainted-work-does-not-show, starts-untainted}
-use Rattle.tables.specs.Layout.{View, view}
+use Rattle.rules.specs.Laws.Bools.{bool-cases}
+use Rattle.tables.specs.Layout.{View, view, size}
 use Rattle.tables.specs.Layout.Only.{view-only}
 use Rattle.book.specs.Book.{worldOf}
+use Rattle.book.specs.Enact.{areaSize}
+use Rattle.book.specs.Test.{areasB}
+use Rattle.book.specs.Laws.Clear.{wiped-clear}
+use Rattle.book.specs.Laws.Means.{sound-means}
+use Rattle.book.specs.Laws.WorldSound.{placed}
 use Rattle.calls.specs.Outcome.{verdictOn, bookLeft, areaLeft, outputLeft}
-use Rattle.calls.specs.Started.{Started, lengthsRight, startAnswer}
-use Rattle.calls.specs.Laws.Prelude.{book-long, book-sound}
+use Rattle.calls.specs.Started.{lengthsRight, startAnswer}
+use Rattle.calls.specs.Laws.Prelude.{book-long, area-long, book-sound}
 use Rattle.calls.specs.Theorems.Kept.{verdict-is, world-after}
 use Rattle.calls.specs.Theorems.One.{one-outcome}
-use Rattle.histories.specs.Areas.{world, Called, After, begun, called}
+use Rattle.flytewood.specs.Laws.{handed-out}
+use Rattle.histories.specs.Areas.{world, After, begun, called}
 use Rattle.histories.specs.Demands as the
 use Rattle.histories.specs.Unseen as two
-use Rattle.histories.specs.Laws.Exports.{handed-out}
 use Rattle.histories.specs.Laws.Refused.{as-done, refusal}
-use Rattle.histories.specs.Laws.Spelled.{spelled, ruled}
+use Rattle.histories.specs.Laws.Spelled.{spelled, ruled-on, ruled}
 use Rattle.histories.specs.Laws.Alike.{not-1, told, runs, run-start, from, same-first}
 
 -- ---- Demand 1
 
 pub demand-1 : the.Demand1
-demand-1 b area c x out answer value b′ area′ out′ h h′ d refused = refusal b area c x out answer value b′ area′ out′ h h′ d refused
+demand-1 b area c x out answer value b′ area′ out′ h d refused = refusal b area c x out answer value b′ area′ out′ h d refused
 
 start-number : (p q : Bool) → (_≡_ {A = ℕ} (cond p (cond q 0 4) 1) 0 → ⊥) → oneOf (cond p (cond q 0 4) 1) (1 ∷ 4 ∷ []) ≡ true
 unfolding oneOf
@@ -53,27 +60,59 @@ start-number false q n = refl
 pub start-refuses : the.StartRefuses
 unfolding startAnswer
 start-refuses b area f answer b′ area′ s n =
-    let not-zero : startAnswer b area f ≡ 0 → ⊥ = λ z. n (s .answer ∙ z) in (
-      subst (λ (i : ℕ). oneOf i (1 ∷ 4 ∷ []) ≡ true) (sym (s .answer)) (start-number (lengthsRight b area) (startable f) not-zero),
-      s .book-kept not-zero,
-      s .area-kept not-zero,
+    let not-zero : startAnswer b area f ≡ 0 → ⊥ = λ z. n (s .made .answer ∙ z) in (
+      subst (λ (i : ℕ). oneOf i (1 ∷ 4 ∷ []) ≡ true) (sym (s .made .answer)) (start-number (lengthsRight b area) (startable f) not-zero),
+      s .made .book-kept not-zero,
+      s .made .area-kept not-zero,
     )
 
 -- ---- Demand 2
 
 pub demand-2 : the.Demand2
-demand-2 h b area a c x out answer value b′ area′ out′ d = ruled h b area (spelled h b area a) c x out answer value b′ area′ out′ d
+unfolding areasB
+demand-2 b area l m sound c x out answer value b′ area′ out′ d =
+    ruled-on b area (rw (eq-eqb (length b) size l, eq-eqb (length area) areaSize m) (sound-means (view b) .1 sound)) c x out answer value b′ area′ out′ d
 
 pub spells-the-world : the.SpellsTheWorld
 spells-the-world h b area a = spelled h b area a .spells
 
+pub next-as-ruled : the.NextAsRuled
+next-as-ruled h b area a c x out answer value b′ area′ out′ d = ruled h b area (spelled h b area a) c x out answer value b′ area′ out′ d
+
 pub one-result : the.OneOutcome
-one-result b area c x out answer₁ value₁ b₁ area₁ out₁ answer₂ value₂ b₂ area₂ out₂ h i p q =
+one-result b area c x out answer₁ value₁ b₁ area₁ out₁ answer₂ value₂ b₂ area₂ out₂ p q =
     let same =
-    one-outcome b area c x _ _ b₁ area₁ b₂ area₂ h i
+    one-outcome b area c x _ _ b₁ area₁ b₂ area₂ (p .book-bytes) (q .book-bytes)
     (as-done b area c x answer₁ value₁ b₁ area₁ (p .said)) (as-done b area c x answer₂ value₂ b₂ area₂ (q .said))
     in
     (p .said .answer-is ∙ sym (q .said .answer-is), p .said .value-is ∙ sym (q .said .value-is), same .book, same .area, p .output ∙ sym (q .output))
+
+-- a Start that is granted was lent a book of the right length
+granted-long : (b area : List ℕ) (f : ℕ) → startAnswer b area f ≡ 0 → length b ≡ size
+unfolding startAnswer lengthsRight
+granted-long b area f e =
+    bool-cases (eqb (length b) size)
+    (λ t. eqb-true (length b) size t)
+    (λ t. absurd (let z : _≡_ {A = ℕ} 1 0 = sym (ap (λ (p : Bool). cond (cond p (eqb (length area) areaSize) false) (cond (startable f) 0 4) 1) t) ∙ e in omega arith))
+
+pub one-start : the.OneStart
+one-start b area f answer₁ b₁ area₁ answer₂ b₂ area₂ p q =
+    let s = p .made in
+    let t = q .made in
+    elim (ℕ-discrete (startAnswer b area f) 0) [
+      | yes e ↦
+          let long = granted-long b area f e in (
+            s .answer ∙ sym (t .answer),
+            view-only b₁ b₂ (p .book-bytes) (q .book-bytes) (s .book-made e ∙ sym (t .book-made e)) (s .length-same ∙ long) (t .length-same ∙ long),
+            s .area-made e ∙ sym (t .area-made e),
+          )
+      | no n ↦ (s .answer ∙ sym (t .answer), s .book-kept n ∙ sym (t .book-kept n), s .area-kept n ∙ sym (t .area-kept n))
+    ]
+
+pub one-read : the.OneRead
+one-read b area c d s k from n answer₁ value₁ place₁ count₁ b₁ area₁ answer₂ value₂ place₂ count₂ b₂ area₂ p q =
+    let (answers, values, books, areas, parts) = one-result b area c (read d s k from n) [] answer₁ value₁ b₁ area₁ _ answer₂ value₂ b₂ area₂ _ (p .called) (q .called) in
+    (answers, values, p .place-is ∙ sym (q .place-is), p .count-is ∙ sym (q .count-is), books, areas)
 
 -- what a verdict leaves goes by the tables and the data area alone
 same-left : (v v′ : Verdict) (w w′ : View) (l l′ : List ℕ) → v ≡ v′ → w ≡ w′ → l ≡ l′ → (bookLeft v w l ≡ bookLeft v′ w′ l′) × (areaLeft v w l ≡ areaLeft v′ w′ l′)
@@ -81,7 +120,9 @@ same-left v v′ w w′ l l′ e f g = (rw (e, f, g), rw (e, f, g))
 
 one-by-one : {h : History} {b₁ area₁ b₂ area₂ : List ℕ} → After h b₁ area₁ → After h b₂ area₂ → (view b₁ ≡ view b₂) × (area₁ ≡ area₂)
 one-by-one (begun f c₁ d₁ b₁ area₁ s) (begun g c₂ d₂ b₂ area₂ t) =
-    (s .book-made (sym (s .answer)) ∙ sym (t .book-made (sym (t .answer))), s .area-made (sym (s .answer)) ∙ sym (t .area-made (sym (t .answer))))
+    let p = s .made in
+    let q = t .made in
+    (p .book-made (sym (p .answer)) ∙ sym (q .book-made (sym (q .answer))), p .area-made (sym (p .answer)) ∙ sym (q .area-made (sym (q .answer))))
 one-by-one (called h c₁ d₁ c x out₁ answer₁ value₁ b₁ area₁ given₁ a d) (called k c₂ d₂ c′ y out₂ answer₂ value₂ b₂ area₂ given₂ a₂ e) =
     let (p, q) = one-by-one a a₂ in
     let g = spelled h c₁ d₁ a .good in
@@ -91,16 +132,23 @@ one-by-one (called h c₁ d₁ c x out₁ answer₁ value₁ b₁ area₁ given�
     (d .said .left .book-left g ∙ (m ∙ sym (e .said .left .book-left g₂)), d .said .left .area-left ∙ (n ∙ sym (e .said .left .area-left)))
 
 pub one-history : the.OneHistory
-one-history h b₁ area₁ b₂ area₂ bytes₁ bytes₂ a a₂ =
+one-history h b₁ area₁ b₂ area₂ a a₂ =
     let (p, q) = one-by-one a a₂ in
-    (view-only b₁ b₂ bytes₁ bytes₂ p (book-long b₁ area₁ (spelled h b₁ area₁ a .good)) (book-long b₂ area₂ (spelled h b₂ area₂ a₂ .good)), q)
+    let s = spelled h b₁ area₁ a in
+    let t = spelled h b₂ area₂ a₂ in
+    (view-only b₁ b₂ (s .bytes) (t .bytes) p (book-long b₁ area₁ (s .good)) (book-long b₂ area₂ (t .good)), q)
 
 pub reads-show : the.ReadShows
 reads-show h b area a c d s k from count answer value b′ area′ part t granted =
-    let r = demand-2 h b area a c (read d s k from count) [] answer value b′ area′ part t in
+    let r = next-as-ruled h b area a c (read d s k from count) [] answer value b′ area′ part t in
     subst (λ (l : List ℕ). (length l ≡ count) × ((i : ℕ) → i < count → getD l i 0 ≡ lastWritten h s (blockSize * k + from + i)))
     (sym (r .output-is ∙ handed-out (call (worldAfter h) c (read d s k from count))))
     (read-shows h c d s k from count (sym (r .answer-is) ∙ granted))
+
+pub clearing-shows : the.ClearingShows
+clearing-shows h b area a j l =
+    let p = spelled h b area a in
+    wiped-clear (view b) area (placed (view b) (book-sound b area (p .good))) (p .wiped) j (omega (arith, area-long b area (p .good)))
 
 -- ---- Demand 3
 
@@ -109,7 +157,7 @@ stays-sound h b area a = book-sound b area (spelled h b area a .good)
 
 pub no-call-answers-1 : the.NeverOne
 no-call-answers-1 h b area a c x out answer value b′ area′ out′ d e =
-    never-one (worldAfter h) c x (sym (demand-2 h b area a c x out answer value b′ area′ out′ d .answer-is) ∙ e)
+    never-one (worldAfter h) c x (sym (next-as-ruled h b area a c x out answer value b′ area′ out′ d .answer-is) ∙ e)
 
 pub tree-holds : the.TreeHolds
 tree-holds h b area a d container =
@@ -123,18 +171,10 @@ tree-holds h b area a d container =
 pub granted-exactly : the.Exactly
 granted-exactly h b area a c x out answer value b′ area′ out′ d =
     let p = spelled h b area a in
-    let e = demand-2 h b area a c x out answer value b′ area′ out′ d .answer-is in
+    let e = next-as-ruled h b area a c x out answer value b′ area′ out′ d .answer-is in
     subst (λ (w : World). spends w x ≡ true → refusedEarlier answer ≡ false → answer ≡ cond (leb (needs w x) (reckoned h (draws w x))) 0 13)
     (sym (p .spells))
     (λ q n. e ∙ exactly h (p .started-well) c x q (subst (λ (i : ℕ). refusedEarlier i ≡ false) e n))
-
-pub taken-back-exactly : the.BackExactly
-taken-back-exactly h b area a c d o n out answer value b′ area′ out′ t =
-    let p = spelled h b area a in
-    let e = demand-2 h b area a c (moveQuota d o (negsuc n)) out answer value b′ area′ out′ t .answer-is in
-    subst (λ (w : World). isContainer ((w .obj o) .kind) ≡ true → refusedEarlier answer ≡ false → answer ≡ cond (leb (suc n) (reckoned h o)) 0 13)
-    (sym (p .spells))
-    (λ q m. e ∙ back-exactly h (p .started-well) c d o n q (subst (λ (i : ℕ). refusedEarlier i ≡ false) e m))
 
 pub reckoned-is-the-spare : the.ReckonedIsSpare
 reckoned-is-the-spare h b area a =
@@ -164,7 +204,7 @@ pub room-kept : the.RoomIsKept
 room-kept h b area a d n container fits k b₂ area₂ a₂ others c x out answer value b′ area′ out′ t taking from few passed =
     let p = spelled h b area a in
     let q = spelled k b₂ area₂ a₂ in
-    let e = demand-2 k b₂ area₂ a₂ c x out answer value b′ area′ out′ t .answer-is in
+    let e = next-as-ruled k b₂ area₂ a₂ c x out answer value b′ area′ out′ t .answer-is in
     let is : isContainer ((worldAfter h .obj d) .kind) ≡ true = subst (λ (w : World). isContainer ((w .obj d) .kind) ≡ true) (p .spells) container in
     let enough : needs (world b₂ area₂) x ≤ n = omega (arith, few) in
     e
@@ -175,7 +215,7 @@ room-kept h b area a d n container fits k b₂ area₂ a₂ others c x out answe
 pub list-can-grow : the.ListCanGrow
 list-can-grow h b area a s n segment fits k b₂ area₂ a₂ others c d out answer value b′ area′ out′ t m =
     let p = spelled h b area a in
-    let e = demand-2 k b₂ area₂ a₂ c (resize d s n) out answer value b′ area′ out′ t .answer-is in
+    let e = next-as-ruled k b₂ area₂ a₂ c (resize d s n) out answer value b′ area′ out′ t .answer-is in
     let is : isSegment ((worldAfter h .obj s) .kind) ≡ true = subst (λ (w : World). isSegment ((w .obj s) .kind) ≡ true) (p .spells) segment in
     let room : units n ≤ (worldAfter h .obj s) .quota = subst (λ (w : World). units n ≤ (w .obj s) .quota) (p .spells) fits in
     e ∙ growth-is-kept h (p .started-well) k c s n is room others d (subst (λ (i : ℕ). refusedEarlier i ≡ false) e m)

@@ -8,7 +8,8 @@ use Rattle.rules.specs.Kernel.{World, read, after, History, next, worldAfter}
 use Rattle.rules.specs.Laws.Bools.{and-l, and-r}
 use Rattle.tainted.specs.Tainted.{untaintedCaller, taintedCaller, SameUntainted}
 use Rattle.examples.specs.Unseen.{Side, one, two, lefts, rights, grown, grown-world, byTainted, not-untainted, morning, noon, sides, computed, noon-untainted}
-use Rattle.histories.specs.Areas.{world, Called, After}
+use Rattle.flytewood.specs.Called.{Called}
+use Rattle.histories.specs.Areas.{world, After}
 use Rattle.histories.specs.Unseen.{SameTold, AlikeFrom, so-far, turn-each}
 use Rattle.histories.specs.Theorems.{spells-the-world, unseen-from}
 

@@ -8,7 +8,8 @@ use mathlib.Core.List.{List}
 use Rattle.rules.specs.Kernel.{World, Call, History, next, worldAfter, start, started}
 use Rattle.tainted.specs.Tainted.{untaintedCaller, UntaintedStart, SameUntainted}
 use Rattle.book.specs.Test.{areasB}
-use Rattle.histories.specs.Areas.{world, Called, After}
+use Rattle.flytewood.specs.Called.{Called}
+use Rattle.histories.specs.Areas.{world, After}
 
 -- "Take two histories .., with the same start, the same caller at each number and the same calls .. from
 -- callers whose level in one category v is then at most 1. .. Callers above it may call differently." Both

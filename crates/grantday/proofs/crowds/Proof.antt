@@ -28,7 +28,15 @@ same-length-2 : tie.Need-same-length-2
 same-length-2 c = search needs
 
 returns : tie.Need-returns
-returns c = λ h a. left-after _ _ _ _ _ _ _ (left-after _ _ _ _ _ _ _ (left-after _ _ _ _ _ _ _ a (c .before .before .before .before .before .before .before .before .before .before .before .before .before .before .before .before .before .before .before .before .before .set-label .ensures .left)) (c .before .before .before .before .before .before .before .before .before .before .before .before .before .create-segment .ensures .left)) (c .before .before .before .before .before .create-segment2 .ensures .left)
+returns c = λ h a.
+    left-after _ _ _ _ _ _ _
+    (left-after _ _ _ _ _ _ _
+    (left-after _ _ _ _ _ _ _ a
+    (c .before .before .before .before .before .before .before .before .before .before .before .before .before .before .before .before .before .before .before .before .before .set-label .ensures .left)
+    (c .before .before .before .before .before .before .before .before .before .before .before .before .before .before .before .before .before .before .before .slice-known3 .given)
+    (c .before .before .before .before .before .before .before .before .before .before .before .before .before .before .before .before .before .slice-known4 .given))
+    (c .before .before .before .before .before .before .before .before .before .before .before .before .before .create-segment .ensures .left) (c .before .before .before .before .before .before .before .before .before .before .before .slice-known5 .given) (c .before .before .before .before .before .before .before .before .before .slice-known6 .given))
+    (c .before .before .before .before .before .create-segment2 .ensures .left) (c .before .before .before .slice-known7 .given) (c .before .slice-known8 .given)
 
 pub crowds-spec : {M : Type 1} → statement M
 crowds-spec =

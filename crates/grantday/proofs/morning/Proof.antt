@@ -20,7 +20,16 @@ same-length-2 : tie.Need-same-length-2
 same-length-2 c = search needs
 
 returns : tie.Need-returns
-returns c = c .before .before .before .before .grows .ensures _ (c .before .before .before .before .before .before .before .before .before .before .before .grants .ensures _ (start-begins _ _ 100 _ _ _ (c .before .before .before .before .before .before .before .before .before .before .before .before .before .before .before .before .before .before .before .before .before .before .before .before .before .before .before .pre .0) (c .before .before .before .before .before .before .before .before .before .before .before .before .before .before .before .before .before .before .before .before .before .before .before .before .before .before .before .pre .1) can-start (c .before .before .before .before .before .before .before .before .before .before .before .before .before .before .before .before .before .before .start .ensures)))
+returns c =
+    c .before .before .before .before .grows .ensures _
+    (c .before .before .before .before .before .before .before .before .before .before .before .grants .ensures _
+    (start-begins _ _ 100 _ _ _
+    (c .before .before .before .before .before .before .before .before .before .before .before .before .before .before .before .before .before .before .before .before .before .before .before .before .before .before .before .pre .0)
+    (c .before .before .before .before .before .before .before .before .before .before .before .before .before .before .before .before .before .before .before .before .before .before .before .before .before .before .before .pre .1)
+    can-start
+    (c .before .before .before .before .before .before .before .before .before .before .before .before .before .before .before .before .before .before .start .ensures)
+    (c .before .before .before .before .before .before .before .before .before .before .before .before .before .before .before .before .slice-known3 .given)
+    (c .before .before .before .before .before .before .before .before .before .before .before .before .before .before .slice-known4 .given)))
 
 pub morning-spec : {M : Type 1} → statement M
 morning-spec =

@@ -13,7 +13,7 @@ same-length : tie.Need-same-length
 same-length c = search needs
 
 returns : tie.Need-returns
-returns c = λ h a. left-after _ _ _ _ _ _ _ a (c .before .before .before .read .ensures .left)
+returns c = λ h a. left-after _ _ _ _ _ _ _ a (c .before .before .before .read .ensures .left) (c .before .slice-known2 .given) (c .before .before .before .before .before .before .before .shared-slice-known .given)
 
 pub reads-spec : {M : Type 1} → statement M
 reads-spec = tie.close (tie.spec read-requires print-line-requires same-length returns)

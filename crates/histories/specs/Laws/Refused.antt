@@ -26,8 +26,7 @@ use Rattle.calls.specs.Laws.Prelude.{book-long, book-sound, verdict-one}
 use Rattle.calls.specs.Theorems.Kept.{verdict-is}
 use Rattle.calls.specs.Theorems.OneRead.{answerFor, number-for, value-for}
 use Rattle.calls.specs.Theorems.Refusals.{refused-value, refused-area, refused-output, stopped-book, refused-book}
-use Rattle.flytewood.specs.Said.{Said}
-use Rattle.histories.specs.Areas.{Bytes, Called}
+use Rattle.flytewood.specs.Called.{Bytes, Said, Called}
 use Rattle.histories.specs.Demands.{Refusal}
 
 -- ---- the book's first eight bytes
@@ -72,7 +71,7 @@ as-done b area c x answer value b′ area′ s =
 
 -- ---- the refusal
 
-module _ (b area : List ℕ) (c : ℕ) (x : Call) (out : List ℕ) (answer value : ℕ) (b′ area′ out′ : List ℕ) (h : Bytes b) (h′ : Bytes b′)
+module _ (b area : List ℕ) (c : ℕ) (x : Call) (out : List ℕ) (answer value : ℕ) (b′ area′ out′ : List ℕ) (h : Bytes b)
     (d : Called b area c x out answer value b′ area′ out′) (refused : answer ≡ 0 → ⊥) where
   r : Answer
   r = answerFor (verdictOn b area c x)
@@ -114,7 +113,7 @@ module _ (b area : List ℕ) (c : ℕ) (x : Call) (out : List ℕ) (answer value
   number-on n =
       let g = good n in
       let long = book-long b area g in
-      only-number b long h (omega (arith, number-there b long, book-sound b area g .next-most)) b′ h′ (d .said .left .length-same)
+      only-number b long h (omega (arith, number-there b long, book-sound b area g .next-most)) b′ (d .book-bytes) (d .said .left .length-same)
       (refused-book b area c x r b′ area′ done refused-so (omega (arith, number-is)) g)
 
   pub refusal : Refusal b area x out answer value b′ area′ out′
@@ -124,6 +123,6 @@ module _ (b area : List ℕ) (c : ℕ) (x : Call) (out : List ℕ) (answer value
         value-zero = zero-value;
         area-same = refused-area b area c x r b′ area′ done refused-so;
         output-same = d .output ∙ refused-output b area c x r b′ area′ done refused-so out;
-        book-same = λ n. stopped-book b area c x r b′ area′ done refused-so (omega (arith, number-is)) h h′;
+        book-same = λ n. stopped-book b area c x r b′ area′ done refused-so (omega (arith, number-is)) h (d .book-bytes);
         number-on = λ n. number-on n ∙ ap (leSet 8 b 0) (omega arith);
       }
