@@ -4,6 +4,8 @@ ghost use mathlib.Core.Path.{_≡_};
 ghost use Prim.Native.Nat.{_+_, _*_, _≤_, _<_};
 ghost use lib.ListN.{length};
 ghost use Rattle.label_vectors.specs.Asked.{asked};
+ghost use Rattle.label_vectors.specs.Text.{put};
+ghost use Rattle.label_vectors.specs.Line.{pairText, answerText, lineText, linesText};
 use labels::Label;
 use labels::bytes;
 use labels::compare;
@@ -52,7 +54,7 @@ fn asked(op: u8, n: u64, x: Label, y: Label, z: Label) -> bool
 // The label with the pair whose word is `word`, in hexadecimal, or `full`.
 fn put_pair(out: &mut [u8], at: usize, x: Label, word: u64) -> usize
     requires { ⌜ at + 130 ≤ length (now out) ⌝ }
-    ensures { λ r. ⌜ r ≤ at + 130 ⌝ }
+    ensures { λ r. ⌜ (r ≡ at + length (pairText x word)) × (now (out .exit) ≡ put (now (out .entry)) at (pairText x word)) ⌝ }
 {
     let paired = pair::with_pair(x, words::category(word), words::code(word));
     if !paired.fits {
@@ -66,7 +68,7 @@ fn put_pair(out: &mut [u8], at: usize, x: Label, word: u64) -> usize
 // The answer to a case.
 fn put_answer(out: &mut [u8], at: usize, case: &[u8]) -> usize
     requires { ⌜ (at + 130 ≤ length (now out)) × (length (now case) ≡ 204) ⌝ }
-    ensures { λ r. ⌜ r ≤ at + 130 ⌝ }
+    ensures { λ r. ⌜ (r ≡ at + length (answerText (now (case .entry)))) × (now (out .exit) ≡ put (now (out .entry)) at (answerText (now (case .entry)))) ⌝ }
 {
     let op = case[0];
     let n = bytes::get_u64(case, 1);
@@ -88,7 +90,7 @@ fn put_answer(out: &mut [u8], at: usize, case: &[u8]) -> usize
 // The line of the case with this index.
 fn put_line(out: &mut [u8], at: usize, index: u64, case: &[u8]) -> usize
     requires { ⌜ (at + 152 ≤ length (now out)) × (length (now case) ≡ 204) ⌝ }
-    ensures { λ r. ⌜ r ≤ at + 152 ⌝ }
+    ensures { λ r. ⌜ (r ≡ at + length (lineText index (now (case .entry)))) × (now (out .exit) ≡ put (now (out .entry)) at (lineText index (now (case .entry)))) ⌝ }
 {
     let indexed = text::decimal(out, at, index);
     let spaced = text::copy(out, indexed, b" ");
@@ -99,7 +101,7 @@ fn put_line(out: &mut [u8], at: usize, index: u64, case: &[u8]) -> usize
 // The lines of `count` cases, the first of which has the index `first`.
 fn put_lines(out: &mut [u8], first: u64, cases: &[u8], count: usize) -> usize
     requires { ⌜ (count * 152 ≤ length (now out)) × (count * 204 ≤ length (now cases)) × (first + count < 18446744073709551616) ⌝ }
-    ensures { λ r. ⌜ r ≤ count * 152 ⌝ }
+    ensures { λ r. ⌜ (r ≡ length (linesText count first (now (cases .entry)))) × (now (out .exit) ≡ put (now (out .entry)) 0 (linesText count first (now (cases .entry)))) ⌝ }
 {
     let mut at = 0;
     let mut index = first;

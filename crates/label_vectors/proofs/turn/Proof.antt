@@ -1,5 +1,6 @@
 use native.Mathlib.Omega.{arith}
 use lib.ListN.{length-take}
+use Rattle.label_vectors.specs.Line.Laws.{lines-within}
 use borrow.Author.Needs.{needs}
 use Rattle.label_vectors.proofs.turn.Statement.{statement}
 use Rattle.label_vectors.proofs.turn.Tie as tie
@@ -20,10 +21,10 @@ put-lines-requires : tie.Need-put-lines-requires
 put-lines-requires c κs = search needs
 
 array-share-prefix-out : tie.Need-array-share-prefix-out
-array-share-prefix-out c = search needs
+array-share-prefix-out c = omega (arith, lines-within _ _ _ _ (c .before .put-lines .ensures .0))
 
 slice-aggregate-write-all : tie.Need-slice-aggregate-write-all
-slice-aggregate-write-all c = simp length-take (omega arith)
+slice-aggregate-write-all c = simp length-take (omega (arith, lines-within _ _ _ _ (c .before .before .put-lines .ensures .0)))
 
 write-all-requires : tie.Need-write-all-requires
 write-all-requires c κs = search needs
