@@ -1,5 +1,5 @@
-//! The book of docs/BOOK.md as plain bytes, and when a book is sound (section 5 of docs/RULES.md), clause by clause. It
-//! was written from docs/BOOK.md and page 01, the user's rules that docs/RULES.md restates.
+//! The book of docs/BOOK.md as plain bytes, and when a book is sound (section 5 of docs/RULES.md), clause by
+//! clause. It was written from docs/BOOK.md and page 01, the user's rules that docs/RULES.md restates.
 
 pub mod books;
 pub mod compounds;
@@ -26,8 +26,8 @@ pub const ALL_KINDS: u64 = 15;
 pub const ROOT_QUOTA: u64 = 256;
 pub const LARGEST_QUOTA: u64 = 255;
 
-/// RULES 1.1: "An object is of one of four kinds, each with a code: thread (1), gate (2), segment (3), container (4)."
-/// Kind 0 is a free row.
+/// RULES 1.1: "An object is of one of four kinds, each with a code: thread (1), gate (2), segment (3),
+/// container (4)." Kind 0 is a free row.
 pub const FREE: u64 = 0;
 pub const THREAD: u64 = 1;
 pub const GATE: u64 = 2;
@@ -265,8 +265,8 @@ pub fn every_field_is_in_its_range(book: &[u8]) -> bool {
         && blocks_in_use(book).into_iter().all(|(owner, index)| block_in_range(book, owner, index))
 }
 
-/// RULES 5.1: ".. an id at least 1, a kind 1 to 4; a thread or gate has quota 1, the root 256, anything else 1 to 255;
-/// a mask is at most 15, a length at most 16,256, .."
+/// RULES 5.1: ".. an id at least 1, a kind 1 to 4; a thread or gate has quota 1, the root 256, anything else
+/// 1 to 255; a mask is at most 15, a length at most 16,256, .."
 fn row_in_range(book: &[u8], row: usize, is_root: bool) -> bool {
     let quota = get(book, QUOTA, row);
     let some_quota = (1..=LARGEST_QUOTA).contains(&quota);
@@ -348,8 +348,8 @@ fn hangs_under(book: &[u8], links: &[(usize, usize)], root: usize, row: usize) -
     false
 }
 
-/// RULES 5.6: "Any other object is linked somewhere.": here, what is no container. "Only a segment whose quota is fixed
-/// may be linked in more than one container."
+/// RULES 5.6: "Any other object is linked somewhere.": here, what is no container. "Only a segment whose
+/// quota is fixed may be linked in more than one container."
 pub fn every_other_object_has_its_link_or_links(book: &[u8]) -> bool {
     let links = links_in_use(book);
     let others = rows_in_use(book).into_iter().filter(|row| get(book, KIND, *row) != CONTAINER);
@@ -371,8 +371,8 @@ pub fn use_never_exceeds_quota(book: &[u8]) -> bool {
     rows_in_use(book).into_iter().all(|row| use_of(book, &links, row) <= get(book, QUOTA, row))
 }
 
-/// RULES 3.2, of a segment: ".. with n bytes, 1 + (n + 63) / 64 rounded down." 3.3: "A container uses 1 unit and the
-/// quotas of all that is linked in it."
+/// RULES 3.2, of a segment: ".. with n bytes, 1 + (n + 63) / 64 rounded down." 3.3: "A container uses 1 unit
+/// and the quotas of all that is linked in it."
 pub fn use_of(book: &[u8], links: &[(usize, usize)], row: usize) -> u64 {
     let charge = |to: usize| if kind_of(book, to) == FREE { 0 } else { get(book, QUOTA, to) };
     match get(book, KIND, row) {

@@ -1,6 +1,6 @@
-//! Labels: section 2 of docs/RULES.md, straight from page 01 (the user's rules, which that page restates). Nothing here
-//! is clever: a comparison collects every category that any of its labels names, adds one that none of them names, and
-//! tests the inequality at each.
+//! Labels: section 2 of docs/RULES.md, straight from page 01 (the user's rules, which that page restates).
+//! Nothing here is clever: a comparison collects every category that any of its labels names, adds one that
+//! none of them names, and tests the inequality at each.
 
 use std::collections::BTreeSet;
 
@@ -17,7 +17,8 @@ pub const HIGH_STAR: u8 = 5;
 pub const WORDS: usize = 8;
 /// The default in one byte, then eight words of eight bytes.
 pub const LABEL_LEN: usize = 65;
-/// RULES 4.4: "The last number is 2305843009213693951, which is 2^61 - 1.": this is the first number past the end.
+/// RULES 4.4: "The last number is 2305843009213693951, which is 2^61 - 1.": this is the first number past the
+/// end.
 pub const PAST_THE_END: u64 = 1 << 61;
 
 /// No well-formed label names category 0, so it stands for all the categories that nobody names.
@@ -57,8 +58,8 @@ impl Label {
         label
     }
 
-    /// RULES 2.6: ".. the default code in the first, then each word in eight, the lowest byte first."; any other length
-    /// is no label.
+    /// RULES 2.6: ".. the default code in the first, then each word in eight, the lowest byte first."; any
+    /// other length is no label.
     pub fn parse(bytes: &[u8]) -> Option<Label> {
         if bytes.len() != LABEL_LEN {
             return None;
@@ -126,8 +127,8 @@ impl Label {
         (1..categories.len()).all(|i| categories[i - 1] < categories[i])
     }
 
-    /// RULES 2.14: "(d) no pair's code is above 4; (e) no pair has the default's code; (f) each category is at least 1
-    /// and less than n;"
+    /// RULES 2.14: "(d) no pair's code is above 4; (e) no pair has the default's code; (f) each category is
+    /// at least 1 and less than n;"
     fn pair_suits(&self, word: u64, bound: u64, star_allowed: bool) -> bool {
         let category = category_of(word);
         let code = code_of(word);
@@ -165,8 +166,8 @@ pub fn join(a: u8, b: u8) -> u8 {
     a.max(b)
 }
 
-/// RULES 2.10: "floor(X, Y) has star at each category where X has star or Y has star, and the greater code at all
-/// others."
+/// RULES 2.10: "floor(X, Y) has star at each category where X has star or Y has star, and the greater code at
+/// all others."
 pub fn floor(a: u8, b: u8) -> u8 {
     if a == STAR || b == STAR {
         STAR

@@ -156,8 +156,8 @@ impl Turn<'_> {
         Ok(self.number)
     }
 
-    /// RULES 8.4: "7 unless T may write D, T flows to the new label, that flows to the new clearance if there is one,
-    /// and the last of these flows to T's clearance."
+    /// RULES 8.4: "7 unless T may write D, T flows to the new label, that flows to the new clearance if there
+    /// is one, and the last of these flows to T's clearance."
     fn may_create(&self, d: usize, new: &Row) -> bool {
         let above = match new.kind {
             THREAD | GATE => flows(new.label, new.clearance) && flows(new.clearance, self.clearance()),

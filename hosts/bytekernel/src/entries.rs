@@ -38,8 +38,8 @@ pub struct Entry {
 }
 
 impl Turn<'_> {
-    /// RULES 6.5: "A container that the call names does not exist, is an object of another kind, or may not be read by
-    /// the caller; .."
+    /// RULES 6.5: "A container that the call names does not exist, is an object of another kind, or may not
+    /// be read by the caller; .."
     pub fn container(&self, d: u64) -> Result<usize, u64> {
         let row = row_of(self.b, d).ok_or(NO_ENTRY)?;
         let readable = kind(self.b, row) == CONTAINER && may_read(self.label(), label(self.b, row));

@@ -56,8 +56,8 @@ impl Turn<'_> {
         Ok(entry(self.b, gate))
     }
 
-    /// RULES 8.15: "7 unless T flows to G's clearance, T flows to L_V, floor(T, G) flows to L_R, L_R flows to C_R, and
-    /// C_R flows to join(T's clearance, G's clearance)."
+    /// RULES 8.15: "7 unless T flows to G's clearance, T flows to L_V, floor(T, G) flows to L_R, L_R flows to
+    /// C_R, and C_R flows to join(T's clearance, G's clearance)."
     fn may_enter(&self, gate: usize, l_r: Label, c_r: Label, l_v: Label) -> bool {
         flows(self.label(), clearance(self.b, gate))
             && flows(self.label(), l_v)
@@ -66,8 +66,8 @@ impl Turn<'_> {
             && flows_to_join(c_r, self.clearance(), clearance(self.b, gate))
     }
 
-    /// RULES 8.16: "5 unless D is a container that T may read, and O is D itself or is linked in D; no other call takes
-    /// (D, D) for an entry."
+    /// RULES 8.16: "5 unless D is a container that T may read, and O is D itself or is linked in D; no other
+    /// call takes (D, D) for an entry."
     fn look(self, d: u64, o: u64, out: &mut [u8]) -> Judged {
         need(out.len() == LOOK_LEN, MALFORMED)?;
         let row = if d == o { self.container(d)? } else { self.entry(d, o)?.o };

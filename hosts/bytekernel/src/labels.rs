@@ -144,8 +144,8 @@ fn high(code: u8) -> u8 {
     }
 }
 
-/// RULES 2.10: "floor(X, Y) has star at each category where X has star or Y has star, and the greater code at all
-/// others."
+/// RULES 2.10: "floor(X, Y) has star at each category where X has star or Y has star, and the greater code at
+/// all others."
 fn floor(x: u8, y: u8) -> u8 {
     if x == STAR || y == STAR {
         STAR

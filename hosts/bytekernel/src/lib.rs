@@ -1,7 +1,8 @@
-//! A second kernel, for the benchmark: Start and the sixteen calls of page 01 (the user's rules, which docs/RULES.md
-//! restates) straight on the bytes of the book (docs/BOOK.md) and the data area, with the soundness of the whole book
-//! on every call. Its functions have the shape of the C interface. It was written from page 01, the readings of it in
-//! docs/DECISIONS.md and docs/BOOK.md, before docs/RULES.md was there; comments quote docs/RULES.md by number.
+//! A second kernel, for the benchmark: Start and the sixteen calls of page 01 (the user's rules, which
+//! docs/RULES.md restates) straight on the bytes of the book (docs/BOOK.md) and the data area, with the
+//! soundness of the whole book on every call. Its functions have the shape of the C interface. It was written
+//! from page 01, the readings of it in docs/DECISIONS.md and docs/BOOK.md, before docs/RULES.md was there;
+//! comments quote docs/RULES.md by number.
 
 mod creates;
 mod entries;

@@ -144,8 +144,8 @@ fn clear_last_kept(b: &Book, a: &mut Area, segment: usize, index: usize, shorter
     }
 }
 
-/// RULES 8.14: "Blocks are gained in the order of their place in the segment.", each the lowest free one (1.10), and
-/// cleared whatever stood there.
+/// RULES 8.14: "Blocks are gained in the order of their place in the segment.", each the lowest free one
+/// (1.10), and cleared whatever stood there.
 fn add_block(b: &mut Book, a: &mut Area, segment: usize, index: usize) {
     let free = (0..BLOCKS).find(|i| block(b, *i).is_none()).expect("units bound the blocks");
     set_block(b, free, segment, index);

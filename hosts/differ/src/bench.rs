@@ -186,8 +186,8 @@ struct Old {
 }
 
 impl Old {
-    /// RULES 6.14: "It leaves both areas and every output as they were, unused bytes too, but for the next number
-    /// (4.2).", and not even that after 1 and 2.
+    /// RULES 6.14: "It leaves both areas and every output as they were, unused bytes too, but for the next
+    /// number (4.2).", and not even that after 1 and 2.
     fn nothing_changed_but_the_number(&self, book: &[u8], area: &[u8], answer: u64) -> Checked {
         let kept = if answer == BAD_AREA || answer == NUMBERS_ENDED { 0 } else { NEXT.width };
         need(self.book.len() == book.len() && self.book[kept..] == book[kept..], || {
@@ -227,8 +227,8 @@ impl Old {
         Ok(())
     }
 
-    /// RULES 8.14: ".. bytes that it loses are set to zero in the area." 8.8: "The blocks of a freed segment are set to
-    /// zero." What the rules do not name stays, or is cleared with a block that is taken or freed.
+    /// RULES 8.14: ".. bytes that it loses are set to zero in the area." 8.8: "The blocks of a freed segment
+    /// are set to zero." What the rules do not name stays, or is cleared with a block that is taken or freed.
     fn byte_follows(&self, area: &[u8], was: &Standing, is: &Standing, place: usize) -> Checked {
         let (old, new) = (was.byte_at(place), is.byte_at(place));
         let (byte, stays) = (area[place], area[place] == self.area[place]);

@@ -46,7 +46,8 @@ fn refused_untouched(
     Ok(())
 }
 
-/// RULES 6.1: "An area's length is wrong, ..", with the sixteen calls that a right one would grant, and with Start.
+/// RULES 6.1: "An area's length is wrong, ..", with the sixteen calls that a right one would grant, and with
+/// Start.
 pub fn areas_of_wrong_length(seen: &mut Seen) -> Checked {
     let bench = showcase::bench()?;
     let books = [0, 1, 8, BOOK_LEN - 1, BOOK_LEN + 1, 65_536];
@@ -70,8 +71,8 @@ pub fn areas_of_wrong_length(seen: &mut Seen) -> Checked {
     Ok(())
 }
 
-/// RULES 7.2: "It answers 1 if an area's length is wrong, and otherwise 4 if f is not in that range. It then leaves
-/// both areas as lent."
+/// RULES 7.2: "It answers 1 if an area's length is wrong, and otherwise 4 if f is not in that range. It then
+/// leaves both areas as lent."
 fn started(book: &[u8], area: &[u8], first: u64, null: bool) -> Checked {
     let (mut lent_book, mut lent_area) = (Guarded::new(book), Guarded::new(area));
     let answer = {

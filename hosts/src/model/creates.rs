@@ -4,8 +4,8 @@ use super::{granted, lent_label, lent_starless, need, Body, Caller, Judged, Kind
 use super::{CLOSURE_LEN, DESCRIPTION_LEN, LABEL_CONDITION, MALFORMED, MASK_FORBIDS, NOT_ENOUGH_SPARE};
 use crate::labels::*;
 
-/// RULES 3.7: "The quota given to call 4 or 5 is at most 255, and 0 stands for a default: 16 for a container, 5 for a
-/// segment."
+/// RULES 3.7: "The quota given to call 4 or 5 is at most 255, and 0 stands for a default: 16 for a container,
+/// 5 for a segment."
 const DEFAULT_SEGMENT_QUOTA: u64 = 5;
 const DEFAULT_CONTAINER_QUOTA: u64 = 16;
 const MOST_QUOTA: u64 = 255;
@@ -111,8 +111,8 @@ impl World {
         granted(0)
     }
 
-    /// RULES 8.8: "An object that is linked nowhere any more is freed, except the root. If it is a container, all links
-    /// in it go too, and so on downwards."
+    /// RULES 8.8: "An object that is linked nowhere any more is freed, except the root. If it is a container,
+    /// all links in it go too, and so on downwards."
     fn remove_link(&mut self, d: u64, o: u64) {
         self.links.remove(&(d, o));
         if !self.holders_of(o).is_empty() {
@@ -127,8 +127,8 @@ impl World {
     }
 }
 
-/// RULES 8.4: ".. T flows to the new label, that flows to the new clearance if there is one, and the last of these
-/// flows to T's clearance."
+/// RULES 8.4: ".. T flows to the new label, that flows to the new clearance if there is one, and the last of
+/// these flows to T's clearance."
 fn may_make(t: &Caller, new: &Object) -> bool {
     let top = new.clearance().unwrap_or(new.label);
     flows(&t.label, &new.label) && flows(&new.label, &top) && flows(&top, &t.clearance)

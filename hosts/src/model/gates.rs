@@ -38,8 +38,8 @@ impl World {
     }
 }
 
-/// RULES 8.15: "7 unless T flows to G's clearance, T flows to L_V, floor(T, G) flows to L_R, L_R flows to C_R, and C_R
-/// flows to join(T's clearance, G's clearance)."
+/// RULES 8.15: "7 unless T flows to G's clearance, T flows to L_V, floor(T, G) flows to L_R, L_R flows to
+/// C_R, and C_R flows to join(T's clearance, G's clearance)."
 fn may_enter(
     t: &Caller,
     gate_label: &Label,
@@ -55,8 +55,8 @@ fn may_enter(
         && flows_to_join(clearance_r, &t.clearance, gate_clearance)
 }
 
-/// RULES 8.16: "Output: the description in 32 bytes; the kind's code; 1, for a label that is shown; the label's default
-/// code; five zeros; the eight words in eight bytes each, the lowest first."
+/// RULES 8.16: "Output: the description in 32 bytes; the kind's code; 1, for a label that is shown; the
+/// label's default code; five zeros; the eight words in eight bytes each, the lowest first."
 fn sight(t: &Caller, object: &Object) -> Vec<u8> {
     // RULES 8.16: "If O is a thread that T may not read, all bytes after the kind's code are 0."
     let shown = object.kind() != Kind::Thread || may_read(&t.label, &object.label);

@@ -1,4 +1,5 @@
-//! RULES 1.1: "An object is of one of four kinds, each with a code: thread (1), gate (2), segment (3), container (4)."
+//! RULES 1.1: "An object is of one of four kinds, each with a code: thread (1), gate (2), segment (3),
+//! container (4)."
 
 use crate::labels::Label;
 

@@ -8,8 +8,8 @@ use crate::labels::*;
 const MOST_MOVED: i64 = 256;
 
 impl World {
-    /// RULES 8.9: "7 unless T may write D and O flows to T's clearance." 8.4, of creates: "No other call looks at a
-    /// mask."
+    /// RULES 8.9: "7 unless T may write D and O flows to T's clearance." 8.4, of creates: "No other call
+    /// looks at a mask."
     pub(super) fn link_segment(&mut self, t: &Caller, d1: u64, o: u64, d: u64) -> Judged {
         let object = self.entry(t, d1, o)?;
         self.readable_container(t, d)?;
@@ -23,8 +23,8 @@ impl World {
         granted(0)
     }
 
-    /// RULES 8.10: "7 unless T may write D and T flows to O. O's quota is fixed for good; if it was fixed before,
-    /// nothing changes."
+    /// RULES 8.10: "7 unless T may write D and T flows to O. O's quota is fixed for good; if it was fixed
+    /// before, nothing changes."
     pub(super) fn fix_quota(&mut self, t: &Caller, d: u64, o: u64) -> Judged {
         let object = self.entry(t, d, o)?;
         need(object.kind() == Kind::Segment, WRONG_KIND)?;
@@ -35,8 +35,8 @@ impl World {
         granted(0)
     }
 
-    /// RULES 8.11: "7 unless T may write D, T flows to O, O flows to T's clearance and, for n below 0, O flows to
-    /// high(T)."
+    /// RULES 8.11: "7 unless T may write D, T flows to O, O flows to T's clearance and, for n below 0, O
+    /// flows to high(T)."
     pub(super) fn move_quota(&mut self, t: &Caller, d: u64, o: u64, n: i64) -> Judged {
         need((-MOST_MOVED..=MOST_MOVED).contains(&n), MALFORMED)?;
         let object = self.entry(t, d, o)?;

@@ -5,8 +5,8 @@ use super::{LABEL_CONDITION, NINTH_PAIR};
 use crate::labels::*;
 
 impl World {
-    /// RULES 8.1: "T's label gets star at the new category. T's clearance gets level 3 there, by a pair unless its
-    /// default is level 3."
+    /// RULES 8.1: "T's label gets star at the new category. T's clearance gets level 3 there, by a pair
+    /// unless its default is level 3."
     pub(super) fn create_category(&mut self, t: &Caller) -> Judged {
         let label = t.label.insert(t.number, STAR).ok_or(NINTH_PAIR)?;
         let clearance = if t.clearance.default == LEVEL_3 {

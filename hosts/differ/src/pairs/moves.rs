@@ -1,5 +1,5 @@
-//! The calls of the two histories, drawn to suit a world: what W5 (docs/RULES.md, section 12) is about, and the mixture
-//! of other runs.
+//! The calls of the two histories, drawn to suit a world: what W5 (docs/RULES.md, section 12) is about, and
+//! the mixture of other runs.
 
 use super::untainted::{threads, untainted, untainted_threads, with_level};
 use crate::mixture::{draw_of, fill_in};
@@ -260,8 +260,8 @@ fn look_at_something_tainted(hand: &mut Hand) -> Option<Call> {
     Some(look(d, o))
 }
 
-/// Unreadable in one history and absent in the other: that it exists would show if the answers differed (RULES 10.3,
-/// (a)).
+/// Unreadable in one history and absent in the other: that it exists would show if the answers differed
+/// (RULES 10.3, (a)).
 fn name_a_container_of_one_world(hand: &mut Hand) -> Option<Call> {
     let (here, there) = (hand.world.containers(), hand.other.containers());
     let mut of_one: Vec<u64> = here.iter().copied().filter(|d| !there.contains(d)).collect();

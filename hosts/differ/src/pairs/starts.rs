@@ -1,5 +1,5 @@
-//! The starts of the pairs: worlds in which the three terms of W5 (RULES 12.2) hold, made by real calls or from
-//! elsewhere.
+//! The starts of the pairs: worlds in which the three terms of W5 (RULES 12.2) hold, made by real calls or
+//! from elsewhere.
 
 use super::opening::{one, two, Opening};
 use super::untainted::{the_three_terms, threads, untainted, untainted_threads, with_level};

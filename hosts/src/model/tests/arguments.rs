@@ -1,5 +1,5 @@
-//! Readings on numbers and on answer 4 (docs/DECISIONS.md). RULES 6.4: "This test sees the arguments and the next
-//! number, and nothing else.": every malformed call here names containers that are not there.
+//! Readings on numbers and on answer 4 (docs/DECISIONS.md). RULES 6.4: "This test sees the arguments and the
+//! next number, and nothing else.": every malformed call here names containers that are not there.
 
 use crate::ask::*;
 use crate::history::Script;

@@ -9,8 +9,8 @@ fn one() -> Label {
     Label::plain(LEVEL_1)
 }
 
-/// RULES 10.3: "(a) to answer 7 where a container may not be read and 5 where there is none, which tells that it
-/// exists;"
+/// RULES 10.3: "(a) to answer 7 where a container may not be read and 5 where there is none, which tells that
+/// it exists;"
 #[test]
 fn an_unreadable_container_answers_as_an_absent_one() {
     let mut s = Script::new("existence", 5);
@@ -46,8 +46,8 @@ fn a_refused_call_takes_its_number() {
     assert_eq!(s.grant(6, segment(5, one(), 0)), 8);
 }
 
-/// RULES 10.3: "(d) to set a block to zero when it is freed, and rely on that when it is taken again;" New bytes are
-/// zero whatever happened.
+/// RULES 10.3: "(d) to set a block to zero when it is freed, and rely on that when it is taken again;" New
+/// bytes are zero whatever happened.
 #[test]
 fn new_bytes_are_zero() {
     let mut s = Script::new("zeros", 5);
@@ -63,8 +63,8 @@ fn new_bytes_are_zero() {
     assert_eq!(s.output(6, read(5, new, 0, 0, 64)), vec![0; 64]);
 }
 
-/// RULES 10.3: "(e) to charge a segment that is linked twice only once.": it is charged in both containers, also where
-/// one lies in the other.
+/// RULES 10.3: "(e) to charge a segment that is linked twice only once.": it is charged in both containers,
+/// also where one lies in the other.
 #[test]
 fn a_second_link_is_charged_again() {
     let mut s = Script::new("charges", 5);
