@@ -1,6 +1,7 @@
--- How each change of the rules is made on rows, links, blocks and the data area. RULES 1.10: "When a row or a link of the
--- book or a block of the data area is needed, the free one with the lowest number is taken, .." So what a change leaves is
--- fixed to the byte. Laws/ has for each that the world it leaves is the change applied to the world before.
+-- How each change of the rules is made on rows, links, blocks and the data area. RULES 1.10: "When a row or a
+-- link of the book or a block of the data area is needed, the free one with the lowest number is taken, .."
+-- So what a change leaves is fixed to the byte. Laws/ has for each that the world it leaves is the change
+-- applied to the world before.
 use Prim.Native.Nat.{ℕ, zero, suc, _+_, _*_, _-_, _/_, _%_}
 use mathlib.Core.Bool.{Bool, true, false, not, cond}
 use mathlib.Core.List.{List, [], _∷_, _++_}
@@ -211,8 +212,8 @@ enactArea (link d o) v area = area
 
 -- ---- Start
 
--- RULES 7.3: "Container f becomes the root, ..; thread f + 1 is linked in it, .. The data area is cleared, and so is all
--- else in the book."
+-- RULES 7.3: "Container f becomes the root, ..; thread f + 1 is linked in it, .. The data area is cleared,
+-- and so is all else in the book."
 unfoldable pub startView : ℕ → View
 startView f =
     linkFilled 0 0 1

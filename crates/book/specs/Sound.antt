@@ -41,8 +41,9 @@ timesHeld v r k = Σ blockCount (λ b. when (isBlock v r k b) 1)
 
 -- ---- ranges
 
--- RULES 5.1: ".. a kind 1 to 4; a thread or gate has quota 1, the root 256, anything else 1 to 255; a mask is at most 15, a
--- length at most 16,256, a fixed mark 0 or 1; .." (That only the root has more than 255 comes from 5.5 and 5.8.)
+-- RULES 5.1: ".. a kind 1 to 4; a thread or gate has quota 1, the root 256, anything else 1 to 255; a mask is
+-- at most 15, a length at most 16,256, a fixed mark 0 or 1; .." (That only the root has more than 255 comes
+-- from 5.5 and 5.8.)
 pub record Range (code q n fixed mask : ℕ) : Type 0 where
   pub code-most : code ≤ maxCode
   pub quota-some : 1 ≤ q
@@ -80,17 +81,19 @@ pub record Sound (v : View) : Type 0 where
   pub next-most : nextOf v ≤ suc lastNumber
   pub ranges : (r : ℕ) → Live v r → Range (codeOf v r) (quotaOf v r) (lenOf v r) (fixedOf v r) (maskOf v r)
   pub ends : (l : ℕ) → On v l → Ends v l
-  -- RULES 5.1: ".. an id at least 1, .." 5.2: "No two objects share an id, and each id is less than the next number."
+  -- RULES 5.1: ".. an id at least 1, .." 5.2: "No two objects share an id, and each id is less than the next
+  -- number."
   pub ids-from : (r : ℕ) → Live v r → 1 ≤ idOf v r
   pub ids-below : (r : ℕ) → Live v r → idOf v r < nextOf v
   pub ids-apart : (r s : ℕ) → Live v r → Live v s → s < r → idOf v r ≡ idOf v s → ⊥
-  -- RULES 5.3: "Each label and clearance is well formed below the next number." Star stands in labels of threads and gates
-  -- only (2.15).
+  -- RULES 5.3: "Each label and clearance is well formed below the next number." Star stands in labels of
+  -- threads and gates only (2.15).
   pub labels : (r : ℕ) → Live v r → wellFormed (nextOf v) (isThreadOrGate (codeOf v r)) (labelOf v r) ≡ true
   pub clearances : (r : ℕ) → Live v r → ThreadOrGate (codeOf v r) → wellFormed (nextOf v) false (clearanceOf v r) ≡ true
   -- RULES 5.4: "The label of a thread or gate flows to its clearance."
   pub flow : (r : ℕ) → Live v r → ThreadOrGate (codeOf v r) → flows (labelOf v r) (clearanceOf v r) ≡ true
-  -- RULES 5.5: "One container of quota 256 is the root, linked nowhere, and all other containers hang from it in a tree."
+  -- RULES 5.5: "One container of quota 256 is the root, linked nowhere, and all other containers hang from it
+  -- in a tree."
   pub root : (r : ℕ) × Root v r
   -- RULES 5.6: "Any other object is linked somewhere."
   pub some-link : (r : ℕ) → Live v r → (idOf v r ≡ rootOf v → ⊥) → 1 ≤ linksTo v r
@@ -103,7 +106,7 @@ pub record Sound (v : View) : Type 0 where
   pub segment-fits : (r : ℕ) → Live v r → codeOf v r ≡ segmentCode → units (lenOf v r) ≤ quotaOf v r
   -- RULES 5.9: "A container's mask has all bits of the mask of the container that it is linked in."
   pub masks : (l : ℕ) → On v l → codeOf v (toOf v l) ≡ containerCode → bitOr (maskOf v (toOf v l)) (maskOf v (fromOf v l)) ≡ maskOf v (toOf v l)
-  -- RULES 5.10: "A segment has one block for each 64 bytes that it has or begins, no more and no fewer, and a block belongs
-  -- to at most one segment."
+  -- RULES 5.10: "A segment has one block for each 64 bytes that it has or begins, no more and no fewer, and a
+  -- block belongs to at most one segment."
   pub owned : (b : ℕ) → Used v b → Owned v b
   pub blocks-once : (r : ℕ) → Live v r → codeOf v r ≡ segmentCode → (k : ℕ) → k < blocksOf (lenOf v r) → timesHeld v r k ≡ 1

@@ -5,7 +5,8 @@ ghost use Rattle.book.specs.Book.{isThreadOrGate};
 // In place of a kind's code where the row is free.
 pub const FREE: u8 = 0;
 
-// RULES 1.1: "An object is of one of four kinds, each with a code: thread (1), gate (2), segment (3), container (4)."
+// RULES 1.1: "An object is of one of four kinds, each with a code: thread (1), gate (2), segment (3),
+// container (4)."
 pub const THREAD: u8 = 1;
 
 pub const GATE: u8 = 2;

@@ -51,8 +51,8 @@ module _ (kernel : Kernel) where
           (turn raised raised 9 x y (turn noon noon 9 (setLabel dark) (setLabel dark) same-start (λ u. refl))
           (λ u. not-untainted 7 (raised .obj 9) (t .tainted) u))
 
--- ---- RULES 10.3: "(a) to answer 7 where a container may not be read and 5 where there is none, which tells that
--- it exists;"
+-- ---- RULES 10.3: "(a) to answer 7 where a container may not be read and 5 where there is none, which tells
+-- that it exists;"
 
 -- one of these containers is there, and t may not read it
 unfoldable pub unreadable : World → Obj → List ℕ → Bool

@@ -1,5 +1,5 @@
--- Worked examples: what docs/RULES.md says of them (section 10), and what an independent program says, comes out of the
--- definitions of `rules` by computing.
+-- Worked examples: what docs/RULES.md says of them (section 10), and what an independent program says, comes
+-- out of the definitions of `rules` by computing.
 pub mod Play
 pub mod Grantday
 pub mod Errors

@@ -1,5 +1,5 @@
--- The numbers that calls issue, in the order in which they were issued. RULES 4.3: "A call that issues an id or a
--- category issues its own number."
+-- The numbers that calls issue, in the order in which they were issued. RULES 4.3: "A call that issues an id
+-- or a category issues its own number."
 use Prim.Native.Nat.{ℕ, _+_, _<_}
 use mathlib.Core.Bool.{Bool, cond, _&&_, _||_}
 use mathlib.Core.Path.{_≡_}
@@ -31,8 +31,8 @@ callNumber (look d o out) = 16
 unfoldable pub creates : Call → Bool
 creates x = leb 4 (callNumber x) && leb (callNumber x) 7
 
--- RULES 8.1: "Value: the category, which is the call's own number." 8.4: "The object is made with the call's own number as
--- its id, .. Value: its id."
+-- RULES 8.1: "Value: the category, which is the call's own number." 8.4: "The object is made with the call's
+-- own number as its id, .. Value: its id."
 unfoldable pub issues : Call → Bool
 issues x = eqb (callNumber x) 1 || creates x
 

@@ -1,6 +1,7 @@
--- The rules of docs/RULES.md as definitions that compute: what the kernel holds, the calls as data, and for any
--- world, caller and call the answer, the value, the output and the world after. There are no positions here: objects
--- go by id, links are pairs of ids, bytes lie in their segment. `RULES 3.4: ".."` quotes rule 3.4 of that page.
+-- The rules of docs/RULES.md as definitions that compute: what the kernel holds, the calls as data, and for
+-- any world, caller and call the answer, the value, the output and the world after. There are no positions
+-- here: objects go by id, links are pairs of ids, bytes lie in their segment. `RULES 3.4: ".."` quotes rule
+-- 3.4 of that page.
 use Prim.Native.Nat.{ℕ, zero, suc, _+_, _*_, _-_, _/_, _%_, _^_}
 use mathlib.Core.Bool.{Bool, true, false, not, cond, _&&_, _||_}
 use mathlib.Core.List.{List, [], _∷_, _++_}
@@ -17,7 +18,8 @@ use Rattle.quotas.specs.Any.{any}
 
 -- ---- numbers, each named once
 
--- RULES 1.1: "An object is of one of four kinds, each with a code: thread (1), gate (2), segment (3), container (4)."
+-- RULES 1.1: "An object is of one of four kinds, each with a code: thread (1), gate (2), segment (3),
+-- container (4)."
 abbrev pub threadCode : ℕ
 threadCode = 1
 
@@ -42,8 +44,8 @@ lastNumber = 2305843009213693951
 abbrev pub rootQuota : ℕ
 rootQuota = 256
 
--- RULES 3.7: "The quota given to call 4 or 5 is at most 255, and 0 stands for a default: 16 for a container, 5 for a
--- segment."
+-- RULES 3.7: "The quota given to call 4 or 5 is at most 255, and 0 stands for a default: 16 for a container,
+-- 5 for a segment."
 abbrev pub segmentDefault : ℕ
 segmentDefault = 5
 
@@ -53,7 +55,8 @@ containerDefault = 16
 abbrev pub maxQuota : ℕ
 maxQuota = 255
 
--- RULES 1.6: "A container also has a mask, a number from 0 to 15 that forbids kinds: .." (a bit for each kind)
+-- RULES 1.6: "A container also has a mask, a number from 0 to 15 that forbids kinds: .." (a bit for each
+-- kind)
 abbrev pub maskWidth : ℕ
 maskWidth = maxCode
 
@@ -74,7 +77,8 @@ maxLength = 16256
 abbrev pub maxMove : ℕ
 maxMove = 256
 
--- RULES 1.2: ".. a description of 32 bytes." 1.4: ".. 32 closure bytes." 8.16: "4 if the output has not 104 bytes."
+-- RULES 1.2: ".. a description of 32 bytes." 1.4: ".. 32 closure bytes." 8.16: "4 if the output has not 104
+-- bytes."
 abbrev pub textSize : ℕ
 textSize = 32
 
@@ -134,9 +138,9 @@ unfoldable pub nothing : Obj
 nothing =
     record { kind = absent; label = blank; clearance = blank; quota = 0; fixed = false; mask = 0; bytes = []; entry = 0; description = []; closure = [] }
 
--- RULES 4.1: "The book keeps the next number." 1.7: "A link puts an object into a container; .. One container, the
--- root, is linked nowhere." The next number, the root's id, the object of each id, and which pairs (container, object)
--- are linked.
+-- RULES 4.1: "The book keeps the next number." 1.7: "A link puts an object into a container; .. One
+-- container, the root, is linked nowhere." The next number, the root's id, the object of each id, and which
+-- pairs (container, object) are linked.
 pub record World : Type 0 where
   pub next : ℕ
   pub root : ℕ
@@ -145,17 +149,18 @@ pub record World : Type 0 where
 
 -- ---- units
 
--- RULES 3.2: "A segment uses 1 unit, and 1 more for each 64 bytes that it has or begins: with n bytes, 1 + (n + 63) / 64
--- rounded down."
+-- RULES 3.2: "A segment uses 1 unit, and 1 more for each 64 bytes that it has or begins: with n bytes, 1 + (n
+-- + 63) / 64 rounded down."
 unfoldable pub units : ℕ → ℕ
 units n = 1 + (n + 63) / 64
 
--- RULES 3.3: ".. the quotas of all that is linked in it. A segment linked in two containers counts in full in each."
+-- RULES 3.3: ".. the quotas of all that is linked in it. A segment linked in two containers counts in full in
+-- each."
 unfoldable pub charged : World → ℕ → ℕ
 charged w d = Σ (w .next) (λ o. when (w .linked d o) ((w .obj o) .quota))
 
--- RULES 3.1: "A thread has quota 1 and uses 1 unit, and so does a gate." 3.3: "A container uses 1 unit and the quotas of
--- all that is linked in it." A segment's use is 3.2's.
+-- RULES 3.1: "A thread has quota 1 and uses 1 unit, and so does a gate." 3.3: "A container uses 1 unit and
+-- the quotas of all that is linked in it." A segment's use is 3.2's.
 unfoldable pub useOf : World → ℕ → ℕ
 useOf w o =
     cond (isContainer ((w .obj o) .kind)) (1 + charged w o) (cond (isSegment ((w .obj o) .kind)) (units (length ((w .obj o) .bytes))) 1)
@@ -207,12 +212,13 @@ unfoldable pub under : World → ℕ → ℕ → ℕ → Bool
 under w o zero e = eqb e o
 under w o (suc k) e = any (w .next) (λ d. cond (w .linked d e) (under w o k d) false)
 
--- RULES 8.8: ".. and so on downwards": the quota falls along every link, so no way down is as long as the root's quota
+-- RULES 8.8: ".. and so on downwards": the quota falls along every link, so no way down is as long as the
+-- root's quota
 unfoldable pub below : World → ℕ → ℕ → Bool
 below w o e = any rootQuota (λ k. under w o k e)
 
--- RULES 8.8: "The link of O in D goes, and all other links in D stay. .. If it is a container, all links in it go too, .."
--- So the link (e, p) stays if it is not the one cut, nor in what hangs on it.
+-- RULES 8.8: "The link of O in D goes, and all other links in D stay. .. If it is a container, all links in
+-- it go too, .." So the link (e, p) stays if it is not the one cut, nor in what hangs on it.
 unfoldable pub stays : World → ℕ → ℕ → ℕ → ℕ → Bool
 stays w d o e p = cond (w .linked e p) (not (eqb e d && eqb p o) && not (below w o e)) false
 
@@ -232,8 +238,8 @@ apply (link d o) w = record { next = suc (w .next); root = w .root; obj = w .obj
 
 -- ---- the calls, with their arguments as they are lent
 
--- RULES 8.1 to 8.16, each with what stands in brackets there. A label, clearance, description or closure is the bytes
--- lent, of any length; an output is its length.
+-- RULES 8.1 to 8.16, each with what stands in brackets there. A label, clearance, description or closure is
+-- the bytes lent, of any length; an output is its length.
 pub data Call : Type 0 where
   createCategory : Call
   setLabel : (label : List ℕ) → Call
@@ -252,12 +258,12 @@ pub data Call : Type 0 where
   enterGate : (d g : ℕ) (labelR clearanceR labelV : List ℕ) (out : ℕ) → Call
   look : (d o : ℕ) (out : ℕ) → Call
 
--- ---- answer 4. RULES 6.4: "An argument is malformed or above its limit, or an input or output that is lent has not the
--- length it should have."
+-- ---- answer 4. RULES 6.4: "An argument is malformed or above its limit, or an input or output that is lent
+-- has not the length it should have."
 
--- RULES 8: "Any call is refused by 4 if a label or clearance that it is given has not 65 bytes or is not well formed, .."
--- 2.15: "Star may stand in the label of a thread or gate, in the label of call 2, and in L_R and L_V of call 15. It may
--- stand in no clearance, and in no label of a segment or container."
+-- RULES 8: "Any call is refused by 4 if a label or clearance that it is given has not 65 bytes or is not well
+-- formed, .." 2.15: "Star may stand in the label of a thread or gate, in the label of call 2, and in L_R and
+-- L_V of call 15. It may stand in no clearance, and in no label of a segment or container."
 unfoldable pub goodLabel : ℕ → Bool → List ℕ → Bool
 goodLabel n starred b = eqb (length b) labelSize && wellFormed n starred (labelOf b)
 
@@ -346,13 +352,13 @@ unfoldable pub must : Bool → ℕ → Verdict → Verdict
 must true k r = r
 must false k r = refuse k
 
--- RULES 6.5: "A container that the call names does not exist, is an object of another kind, or may not be read by the
--- caller; .."
+-- RULES 6.5: "A container that the call names does not exist, is an object of another kind, or may not be
+-- read by the caller; .."
 unfoldable pub opens : World → Obj → ℕ → Bool
 opens w t d = isContainer ((w .obj d) .kind) && mayRead (t .label) ((w .obj d) .label)
 
--- RULES 6.5: ".. or the object named with it is not linked in it." 6.15: "A pair (D, O) is an entry for the caller T if D
--- is a container, T may read D, and O is linked in D."
+-- RULES 6.5: ".. or the object named with it is not linked in it." 6.15: "A pair (D, O) is an entry for the
+-- caller T if D is a container, T may read D, and O is linked in D."
 unfoldable pub entry : World → Obj → ℕ → ℕ → Bool
 entry w t d o = opens w t d && w .linked d o
 
@@ -368,10 +374,10 @@ fits w o n = leb n (spareOf w o)
 unfoldable pub orDefault : ℕ → ℕ → ℕ
 orDefault q d = cond (eqb q 0) d q
 
--- RULES 8.4, for calls 4 to 7: "5 unless D is a container that T may read. 7 unless T may write D, T flows to the new
--- label, that flows to the new clearance if there is one, and the last of these flows to T's clearance. 8 if D's mask
--- forbids the kind. 13 if the new quota is above D's spare. The object is made with the call's own number as its id, and
--- linked in D. Value: its id."
+-- RULES 8.4, for calls 4 to 7: "5 unless D is a container that T may read. 7 unless T may write D, T flows to
+-- the new label, that flows to the new clearance if there is one, and the last of these flows to T's
+-- clearance. 8 if D's mask forbids the kind. 13 if the new quota is above D's spare. The object is made with
+-- the call's own number as its id, and linked in D. Value: its id."
 unfoldable pub make : World → Obj → ℕ → Obj → List Condition → Verdict
 make w t d x more =
     must (opens w t d) 5
@@ -403,9 +409,9 @@ threadOf l c s =
 unfoldable pub clearedAt : ℕ → Label → Label
 clearedAt n c = cond (eqb (c .default) level3) c (withPair n level3 c)
 
--- RULES 8.16: "Output: the description in 32 bytes; the kind's code; 1, for a label that is shown; the label's default
--- code; five zeros; the eight words in eight bytes each, the lowest first. If O is a thread that T may not read, all
--- bytes after the kind's code are 0."
+-- RULES 8.16: "Output: the description in 32 bytes; the kind's code; 1, for a label that is shown; the
+-- label's default code; five zeros; the eight words in eight bytes each, the lowest first. If O is a thread
+-- that T may not read, all bytes after the kind's code are 0."
 unfoldable pub lookBytes : Label → Obj → List ℕ
 lookBytes t x =
     x .description
@@ -420,8 +426,9 @@ overwrite from b bytes = take from bytes ++ (b ++ drop (from + length b) bytes)
 unfoldable pub resized : ℕ → List ℕ → List ℕ
 resized n bytes = take n bytes ++ replicate (n - length bytes) 0
 
--- RULES 8.11: "5 unless (D, O) is an entry. 6 unless O is a segment or a container. 7 unless T may write D, T flows to O,
--- O flows to T's clearance and, .. 9 if O's quota is fixed." `more` is the condition for n below 0, `rest` the test 13.
+-- RULES 8.11: "5 unless (D, O) is an entry. 6 unless O is a segment or a container. 7 unless T may write D, T
+-- flows to O, O flows to T's clearance and, .. 9 if O's quota is fixed." `more` is the condition for n below
+-- 0, `rest` the test 13.
 unfoldable pub move : World → Obj → ℕ → ℕ → List Condition → Verdict → Verdict
 move w t d o more rest =
     must (entry w t d o) 5
@@ -429,7 +436,8 @@ move w t d o more rest =
     (must (allHold (writing (t .label) ((w .obj d) .label) ++ (flow (t .label) ((w .obj o) .label) ∷ flow ((w .obj o) .label) (t .clearance) ∷ more))) 7
     (must (not ((w .obj o) .fixed)) 9 rest)))
 
--- RULES 8.12 to 8.14: "5 unless (D, S) is an entry. 6 unless S is a segment." Then 7, by the call's own conditions.
+-- RULES 8.12 to 8.14: "5 unless (D, S) is an entry. 6 unless S is a segment." Then 7, by the call's own
+-- conditions.
 unfoldable pub access : World → Obj → ℕ → ℕ → List Condition → Verdict → Verdict
 access w t d s conditions rest =
     must (entry w t d s) 5
@@ -438,8 +446,9 @@ access w t d s conditions rest =
 
 -- RULES 8.1 to 8.16: the tests from 5 on, and what is granted; t is the caller's object, c its id.
 unfoldable pub judge : World → Obj → ℕ → Call → Verdict
--- RULES 8.1: "12 if T's label has eight pairs, or if T's clearance has eight and its default is not level 3. T's label
--- gets star at the new category. T's clearance gets level 3 there, .. Value: the category, which is the call's own number."
+-- RULES 8.1: "12 if T's label has eight pairs, or if T's clearance has eight and its default is not level 3.
+-- T's label gets star at the new category. T's clearance gets level 3 there, .. Value: the category, which is
+-- the call's own number."
 judge w t c createCategory =
     must (hasRoom (t .label) && (eqb ((t .clearance) .default) level3 || hasRoom (t .clearance))) 12
     (grant (w .next) [] (alter c (relabel (withPair (w .next) star (t .label)) (clearedAt (w .next) (t .clearance)))))
@@ -464,9 +473,9 @@ judge w t c (unreference d o) =
     must (entry w t d o) 5
     (must (allHold (writing (t .label) ((w .obj d) .label))) 7
     (grant 0 [] (cut d o)))
--- RULES 8.9: "5 unless (D1, O) is an entry, D is a container and T may read D. 6 unless O is a segment. 7 unless T may
--- write D and O flows to T's clearance. 9 unless O's quota is fixed. 10 if O is linked in D already. 13 if O's quota is
--- above D's spare. O is then linked in D as well."
+-- RULES 8.9: "5 unless (D1, O) is an entry, D is a container and T may read D. 6 unless O is a segment. 7
+-- unless T may write D and O flows to T's clearance. 9 unless O's quota is fixed. 10 if O is linked in D
+-- already. 13 if O's quota is above D's spare. O is then linked in D as well."
 judge w t c (linkSegment d1 o d) =
     must (entry w t d1 o && opens w t d) 5
     (must (isSegment ((w .obj o) .kind)) 6
@@ -475,15 +484,15 @@ judge w t c (linkSegment d1 o d) =
     (must (not (w .linked d o)) 10
     (must (fits w d ((w .obj o) .quota)) 13
     (grant 0 [] (link d o)))))))
--- RULES 8.10: "5 unless (D, O) is an entry. 6 unless O is a segment. 7 unless T may write D and T flows to O. O's quota
--- is fixed for good; if it was fixed before, nothing changes."
+-- RULES 8.10: "5 unless (D, O) is an entry. 6 unless O is a segment. 7 unless T may write D and T flows to O.
+-- O's quota is fixed for good; if it was fixed before, nothing changes."
 judge w t c (fixQuota d o) =
     must (entry w t d o) 5
     (must (isSegment ((w .obj o) .kind)) 6
     (must (allHold (writing (t .label) ((w .obj d) .label) ++ (flow (t .label) ((w .obj o) .label) ∷ []))) 7
     (grant 0 [] (alter o fix))))
--- RULES 8.11: "13 if n is above D's spare, or if n is below 0 and -n is above O's spare. n is added to O's quota." Test 7,
--- 8.11: ".. for n below 0, O flows to high(T)."
+-- RULES 8.11: "13 if n is above D's spare, or if n is below 0 and -n is above O's spare. n is added to O's
+-- quota." Test 7, 8.11: ".. for n below 0, O flows to high(T)."
 judge w t c (moveQuota d o (pos n)) =
     move w t d o []
     (must (fits w d n) 13
@@ -492,26 +501,27 @@ judge w t c (moveQuota d o (negsuc n)) =
     move w t d o (reading (t .label) ((w .obj o) .label))
     (must (fits w o (suc n)) 13
     (grant 0 [] (alter o (requota ((w .obj o) .quota - suc n)))))
--- RULES 8.12: "7 unless T may read S. 11 if 64k + from + count is above S's length, even if count is 0. The output is the
--- part of the data area that has the bytes of S from 64k + from on, count of them; .."
+-- RULES 8.12: "7 unless T may read S. 11 if 64k + from + count is above S's length, even if count is 0. The
+-- output is the part of the data area that has the bytes of S from 64k + from on, count of them; .."
 judge w t c (read d s k f n) =
     access w t d s (reading (t .label) ((w .obj s) .label))
     (must (leb (blockSize * k + f + n) (length ((w .obj s) .bytes))) 11
     (grant 0 (take n (drop (blockSize * k + f) ((w .obj s) .bytes))) keep))
--- RULES 8.13: "7 unless T may write S. 11 as in 8.12. The bytes take the place of those in S from 64k + from on."
+-- RULES 8.13: "7 unless T may write S. 11 as in 8.12. The bytes take the place of those in S from 64k + from
+-- on."
 judge w t c (write d s k f n b) =
     access w t d s (writing (t .label) ((w .obj s) .label))
     (must (leb (blockSize * k + f + n) (length ((w .obj s) .bytes))) 11
     (grant 0 [] (alter s (rewrite (overwrite (blockSize * k + f) b ((w .obj s) .bytes))))))
--- RULES 8.14: "7 unless T may write S. 13 if a segment of that length uses more units than S's quota has. S gets that
--- length. Bytes that it gains are zero, .."
+-- RULES 8.14: "7 unless T may write S. 13 if a segment of that length uses more units than S's quota has. S
+-- gets that length. Bytes that it gains are zero, .."
 judge w t c (resize d s n) =
     access w t d s (writing (t .label) ((w .obj s) .label))
     (must (leb (units n) ((w .obj s) .quota)) 13
     (grant 0 [] (alter s (rewrite (resized n ((w .obj s) .bytes))))))
--- RULES 8.15: "5 unless (D, G) is an entry. 6 unless G is a gate. 7 unless T flows to G's clearance, T flows to L_V,
--- floor(T, G) flows to L_R, L_R flows to C_R, and C_R flows to join(T's clearance, G's clearance). T's label becomes L_R,
--- and its clearance C_R. Value: G's entry number. Output: G's closure bytes."
+-- RULES 8.15: "5 unless (D, G) is an entry. 6 unless G is a gate. 7 unless T flows to G's clearance, T flows
+-- to L_V, floor(T, G) flows to L_R, L_R flows to C_R, and C_R flows to join(T's clearance, G's clearance).
+-- T's label becomes L_R, and its clearance C_R. Value: G's entry number. Output: G's closure bytes."
 judge w t c (enterGate d g lr cr lv out) =
     must (entry w t d g) 5
     (must (isGate ((w .obj g) .kind)) 6
@@ -521,8 +531,8 @@ judge w t c (enterGate d g lr cr lv out) =
     ∷ flow (labelOf lr) (labelOf cr) ∷ flowJoin (labelOf cr) (t .clearance) ((w .obj g) .clearance) ∷ []))
     7
     (grant ((w .obj g) .entry) ((w .obj g) .closure) (alter c (relabel (labelOf lr) (labelOf cr))))))
--- RULES 8.16: "5 unless D is a container that T may read, and O is D itself or is linked in D; no other call takes (D, D)
--- for an entry."
+-- RULES 8.16: "5 unless D is a container that T may read, and O is D itself or is linked in D; no other call
+-- takes (D, D) for an entry."
 judge w t c (look d o out) =
     must (opens w t d && (eqb o d || w .linked d o)) 5
     (grant 0 (lookBytes (t .label) (w .obj o)) keep)
@@ -534,8 +544,8 @@ tests w c x =
     (must (goodArguments (w .next) x) 4
     (judge w (w .obj c) c x))
 
--- RULES 6.2: "The next number is above the last (4.4)." So this is the whole order of check, but for 6.1, which is about
--- the areas: a world has none.
+-- RULES 6.2: "The next number is above the last (4.4)." So this is the whole order of check, but for 6.1,
+-- which is about the areas: a world has none.
 unfoldable pub call : World → ℕ → Call → Verdict
 call w c x = must (leb (w .next) lastNumber) 2 (tests w c x)
 
@@ -556,8 +566,8 @@ unfoldable pub outputOf : Verdict → List ℕ
 outputOf (refuse k) = []
 outputOf (grant v b h) = b
 
--- RULES 6.14: "It leaves both areas and every output as they were, unused bytes too, but for the next number (4.2)."
--- 4.2: "Only answers 1 and 2 use up none."
+-- RULES 6.14: "It leaves both areas and every output as they were, unused bytes too, but for the next number
+-- (4.2)." 4.2: "Only answers 1 and 2 use up none."
 unfoldable pub leaves : Verdict → World → World
 leaves (refuse k) w = cond (leb k 2) w (apply keep w)
 leaves (grant v b h) w = apply h w
@@ -571,8 +581,8 @@ after w c x = leaves (call w c x) w
 unfoldable pub startable : ℕ → Bool
 startable f = leb 1 f && leb f (lastNumber - 2)
 
--- RULES 7.3: "Container f becomes the root, with label {1}, quota 256 and mask 0; thread f + 1 is linked in it, with label
--- {1} and clearance {2}; both descriptions are zeros." 7.4: "The next number is f + 2."
+-- RULES 7.3: "Container f becomes the root, with label {1}, quota 256 and mask 0; thread f + 1 is linked in
+-- it, with label {1} and clearance {2}; both descriptions are zeros." 7.4: "The next number is f + 2."
 unfoldable pub start : ℕ → World
 start f =
     record {

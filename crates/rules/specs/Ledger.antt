@@ -1,5 +1,6 @@
--- RULES 3.8: "The spare of a container D can be reckoned from the calls so far." A ledger of the granted calls that make,
--- link or move units, and the spare of a container by that ledger and the links that are there now.
+-- RULES 3.8: "The spare of a container D can be reckoned from the calls so far." A ledger of the granted
+-- calls that make, link or move units, and the spare of a container by that ledger and the links that are
+-- there now.
 use Prim.Native.Nat.{ℕ, suc, _+_, _-_, _≤_}
 use mathlib.Core.Bool.{Bool, true, false, cond, _&&_}
 use mathlib.Core.Path.{_≡_}
@@ -19,7 +20,8 @@ pub data Line : Type 0 where
   movedIn : (d o n : ℕ) → Line
   movedBack : (d o n : ℕ) → Line
 
--- what a call with the number n writes if it is granted. RULES 3.1: "A thread has quota 1 .., and so does a gate."
+-- what a call with the number n writes if it is granted. RULES 3.1: "A thread has quota 1 .., and so does a
+-- gate."
 unfoldable pub lineIf : ℕ → Call → Line
 lineIf n createCategory = nothingWritten
 lineIf n (setLabel l) = nothingWritten
@@ -43,8 +45,8 @@ lineIf n (look d o out) = nothingWritten
 unfoldable pub lineOf : World → ℕ → Call → Line
 lineOf w c x = cond (eqb (answerOf (call w c x)) 0) (lineIf (w .next) x) nothingWritten
 
--- ---- RULES 3.8: "Take the units it was created with (the root: 256), add those moved into it, and subtract those moved
--- back out of it, .."
+-- ---- RULES 3.8: "Take the units it was created with (the root: 256), add those moved into it, and subtract
+-- those moved back out of it, .."
 
 -- what a line makes of the units u granted to p before it
 unfoldable pub grantedBy : Line → (p u : ℕ) → ℕ
@@ -58,8 +60,8 @@ unfoldable pub granted : History → ℕ → ℕ
 granted (started f) p = cond (eqb p f) rootQuota (cond (eqb p (f + 1)) 1 0)
 granted (next h c x) p = grantedBy (lineOf (worldAfter h) c x) p (granted h p)
 
--- ---- RULES 3.8: ".. the quota it had when that link was made and the units moved from D into it since, and add the units
--- moved back from it since."
+-- ---- RULES 3.8: ".. the quota it had when that link was made and the units moved from D into it since, and
+-- add the units moved back from it since."
 
 -- what a line makes of the charge k of p in e before it; u is what had been granted to p, the quota it had then
 unfoldable pub chargeBy : Line → (e p u k : ℕ) → ℕ
@@ -96,7 +98,8 @@ takesUnits (tied d o) = true
 takesUnits (movedIn d o n) = true
 takesUnits (movedBack d o n) = false
 
--- the object whose spare is asked. RULES 8.11: "13 if n is above D's spare, or if n is below 0 and -n is above O's spare."
+-- the object whose spare is asked. RULES 8.11: "13 if n is above D's spare, or if n is below 0 and -n is
+-- above O's spare."
 unfoldable pub askedOf : Line → ℕ
 askedOf nothingWritten = 0
 askedOf (made d o q) = d

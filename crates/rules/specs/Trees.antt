@@ -31,8 +31,8 @@ inTree w d o = below w d o
 pub record Unlinked (w : World) (d o : ℕ) (u : World) : Type 0 where
   pub next : u .next ≡ suc (w .next)
   pub root : u .root ≡ w .root
-  -- RULES 8.8: "An object that is linked nowhere any more is freed, .. and so on downwards." So exactly those objects are
-  -- live that were live and that the root still reaches
+  -- RULES 8.8: "An object that is linked nowhere any more is freed, .. and so on downwards." So exactly those
+  -- objects are live that were live and that the root still reaches
   pub live : (p : ℕ) → (isLive ((u .obj p) .kind) ≡ true) ↔ ((isLive ((w .obj p) .kind) ≡ true) × StillReached w d o p)
   -- each of them is as it was, and nothing is left of the others
   pub unchanged : (p : ℕ) → StillReached w d o p → u .obj p ≡ w .obj p
