@@ -77,7 +77,7 @@ heldMarked v h = collect rowCount (λ r. cond (heldRow v r) 1 (getD h r 0))
 abbrev pub spared : View → ℕ → ℕ → ℕ → Bool
 spared v r root held = either (eqb held 1) (eqb (idOf v r) root)
 
--- any other is freed
+-- any other is freed. RULES 1.10: "To free one is to set the mark that docs/BOOK.md names to 0, .."
 unfoldable pub rowFreed : View → ℕ → ℕ → ℕ → View
 rowFreed v r root held = cond (spared v r root held) v (putT kindT r 0 v)
 

@@ -150,8 +150,10 @@ blocksDropped r k v =
 unfoldable pub lengthened : ℕ → ℕ → View → View
 lengthened r n v = putT lenT r n (blocksAdded r (blocksOf (lenOf v r)) (blocksOf n - blocksOf (lenOf v r)) (blocksDropped r (blocksOf n) v))
 
--- byte j of the data area, where row r had its blocks by v and has them by u, and its bytes are b now: a byte within b is b's; a byte of a freed block, of a new
--- block past b, and between the new and the old length is 0; every other stays
+-- byte j of the data area, where row r had its blocks by v and has them by u, and its bytes are b now: a byte
+-- within b is b's; a byte of a freed block, of a new block past b, and between the new and the old length is 0;
+-- every other stays. RULES 8.14: "A block that is gained or lost is zero as a whole, and no other byte of the
+-- area changes."
 unfoldable pub byteAfter : View → View → ℕ → List ℕ → List ℕ → ℕ → ℕ
 byteAfter v u r b area j =
     cond (eqb (ownerOf u (j / blockSize)) (r + 1))
