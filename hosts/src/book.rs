@@ -1,4 +1,5 @@
-//! The book of docs/BOOK.md as plain bytes, and page 01's sentence "A book is sound when", clause by clause.
+//! The book of docs/BOOK.md as plain bytes, and when a book is sound (section 5 of docs/RULES.md), clause by
+//! clause. It was written from docs/BOOK.md and page 01, the user's rules that docs/RULES.md restates.
 
 pub mod books;
 pub mod compounds;
@@ -17,7 +18,7 @@ pub const BOOK_LEN: usize = 57_356;
 pub const ROWS: usize = 256;
 pub const LINKS: usize = 255;
 pub const BLOCKS: usize = 256;
-/// The data area is "256 blocks of 64".
+/// RULES 1.8: ".. the data area, 16,384 bytes in 256 blocks of 64."
 pub const BLOCK_LEN: u64 = 64;
 pub const LONGEST: u64 = 16_256;
 pub const LAST_INDEX: u64 = 253;
@@ -25,7 +26,8 @@ pub const ALL_KINDS: u64 = 15;
 pub const ROOT_QUOTA: u64 = 256;
 pub const LARGEST_QUOTA: u64 = 255;
 
-/// "Four kinds of object: 1 thread, 2 gate, 3 segment, 4 container"; kind 0 is a free row.
+/// RULES 1.1: "An object is of one of four kinds, each with a code: thread (1), gate (2), segment (3),
+/// container (4)." Kind 0 is a free row.
 pub const FREE: u64 = 0;
 pub const THREAD: u64 = 1;
 pub const GATE: u64 = 2;
@@ -88,7 +90,7 @@ pub const TABLES: [Table; 19] = [
 ];
 
 impl Table {
-    /// "Number i of a table is at offset + i × width."
+    /// docs/BOOK.md: "Number i of a table is at offset + i × width."
     pub fn place(&self, number: usize) -> usize {
         self.offset + number * self.width
     }
@@ -104,7 +106,7 @@ impl Table {
     }
 }
 
-/// "A number stands with its lowest byte first."
+/// docs/BOOK.md: "a number stands with its lowest byte first."
 pub fn get(book: &[u8], table: Table, number: usize) -> u64 {
     let at = table.place(number);
     book[at..at + table.width].iter().rev().fold(0, |value, byte| value * 256 + u64::from(*byte))
@@ -182,7 +184,7 @@ fn label_in(book: &[u8], default: Table, words: Table, row: usize) -> Label {
     label
 }
 
-/// A segment of n bytes has "n/64 rounded up" blocks.
+/// RULES 5.10: "A segment has one block for each 64 bytes that it has or begins, .."
 pub fn blocks_for(len: u64) -> u64 {
     (len + BLOCK_LEN - 1) / BLOCK_LEN
 }
@@ -193,7 +195,7 @@ pub fn root_row(book: &[u8]) -> Option<usize> {
     rows_of_kind(book, CONTAINER).into_iter().find(|row| get(book, ID, *row) == root)
 }
 
-/// A clause of page 01's sentence, and the tables it looks at.
+/// A clause of section 5 of docs/RULES.md, and the tables it looks at.
 pub struct Clause {
     pub name: &'static str,
     pub holds: fn(&[u8]) -> bool,
@@ -204,7 +206,7 @@ const fn clause(name: &'static str, holds: fn(&[u8]) -> bool, looks_at: &'static
     Clause { name, holds, looks_at }
 }
 
-/// How many clauses the sentence has.
+/// How many clauses there are.
 pub const CLAUSE_COUNT: usize = 10;
 
 pub static CLAUSES: [Clause; CLAUSE_COUNT] = [
@@ -244,7 +246,7 @@ pub static CLAUSES: [Clause; CLAUSE_COUNT] = [
     clause("each segment has exactly its blocks", each_segment_has_exactly_its_blocks, &[LEN, OWNER, INDEX]),
 ];
 
-/// "A book is sound when" every clause holds; an area of another length is no book.
+/// A book is sound if every clause holds; an area of another length is no book.
 pub fn sound(book: &[u8]) -> bool {
     book.len() == BOOK_LEN && failing(book).is_empty()
 }
@@ -263,7 +265,8 @@ pub fn every_field_is_in_its_range(book: &[u8]) -> bool {
         && blocks_in_use(book).into_iter().all(|(owner, index)| block_in_range(book, owner, index))
 }
 
-/// "Ids from 1; thread and gate quota 1; root's 256, other quotas 1 to 255; mask at most 15; length at most 16,256."
+/// RULES 5.1: ".. an id at least 1, a kind 1 to 4; a thread or gate has quota 1, the root 256, anything else
+/// 1 to 255; a mask is at most 15, a length at most 16,256, .."
 fn row_in_range(book: &[u8], row: usize, is_root: bool) -> bool {
     let quota = get(book, QUOTA, row);
     let some_quota = (1..=LARGEST_QUOTA).contains(&quota);
@@ -276,12 +279,12 @@ fn row_in_range(book: &[u8], row: usize, is_root: bool) -> bool {
         }
 }
 
-/// "An object in a container": the first is a container in use, the second an object in use.
+/// docs/BOOK.md: "an object in a container". The first is a container in use, the second an object in use.
 fn link_in_range(book: &[u8], from: usize, to: usize) -> bool {
     kind_of(book, from) == CONTAINER && kind_of(book, to) != FREE
 }
 
-/// "The row of the block's segment", and "which of its segment's blocks it is".
+/// docs/BOOK.md: "the row of the block's segment", and "which of its segment's blocks it is".
 fn block_in_range(book: &[u8], owner: usize, index: u64) -> bool {
     kind_of(book, owner) == SEGMENT && index <= LAST_INDEX
 }
@@ -293,7 +296,7 @@ pub fn ids_are_distinct_and_below_the_next_number(book: &[u8]) -> bool {
     distinct && ids.into_iter().all(|id| id < get(book, NEXT, 0))
 }
 
-/// "Star stands only in labels of threads and gates, never in a clearance."
+/// RULES 2.15, of star: "It may stand in no clearance, and in no label of a segment or container."
 pub fn labels_are_well_formed_against_it(book: &[u8]) -> bool {
     let next = get(book, NEXT, 0);
     rows_in_use(book).into_iter().all(|row| {
@@ -345,7 +348,8 @@ fn hangs_under(book: &[u8], links: &[(usize, usize)], root: usize, row: usize) -
     false
 }
 
-/// "Every other object": what is no container. "Exactly one unless it is a segment with its quota fixed."
+/// RULES 5.6: "Any other object is linked somewhere.": here, what is no container. "Only a segment whose
+/// quota is fixed may be linked in more than one container."
 pub fn every_other_object_has_its_link_or_links(book: &[u8]) -> bool {
     let links = links_in_use(book);
     let others = rows_in_use(book).into_iter().filter(|row| get(book, KIND, *row) != CONTAINER);
@@ -367,7 +371,8 @@ pub fn use_never_exceeds_quota(book: &[u8]) -> bool {
     rows_in_use(book).into_iter().all(|row| use_of(book, &links, row) <= get(book, QUOTA, row))
 }
 
-/// "A segment of n bytes uses 1 + n/64 rounded up. A container uses 1 plus the quotas of all objects linked in it."
+/// RULES 3.2, of a segment: ".. with n bytes, 1 + (n + 63) / 64 rounded down." 3.3: "A container uses 1 unit
+/// and the quotas of all that is linked in it."
 pub fn use_of(book: &[u8], links: &[(usize, usize)], row: usize) -> u64 {
     let charge = |to: usize| if kind_of(book, to) == FREE { 0 } else { get(book, QUOTA, to) };
     match get(book, KIND, row) {

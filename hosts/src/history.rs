@@ -39,8 +39,8 @@ impl Script {
         self.history.first + 1
     }
 
-    /// Takes the call, whatever is answered. "A refusal leaves the whole book unchanged, save that the call number
-    /// moves on by one (not even that after answers 1 and 2)."
+    /// Takes the call, whatever is answered. RULES 6.14: "It leaves both areas and every output as they were,
+    /// .. but for the next number (4.2)." 4.2: "Only answers 1 and 2 use up none."
     pub fn take(&mut self, caller: u64, call: Call) -> Outcome {
         let before = self.world.clone();
         let outcome = self.world.call(caller, &call);

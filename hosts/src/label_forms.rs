@@ -1,4 +1,5 @@
-//! Draws cases for well-formedness, with every kind of flaw that page 01 names, for insertions and for look-ups.
+//! Draws cases for well-formedness, with every kind of flaw that RULES 2.14 names, for insertions and for
+//! look-ups.
 
 use crate::label_cases::{Case, INSERT, LEVEL_AT};
 use crate::label_draw::{categories, label, other_code};
@@ -92,7 +93,8 @@ fn copy_category(random: &mut Random, x: &mut Label, place: usize) {
     x.words[place + 1] = word(category_of(x.words[place]), code);
 }
 
-/// "A word with category 0 and a code that is not 0 is a used word with a category below 1."
+/// A word with category 0 and a code that is not 0 is a used word with a category below 1 (RULES 2.3, 2.14
+/// (f)).
 fn name_category_zero(random: &mut Random, x: &mut Label, place: usize, count: usize) {
     let code = if random.chance(80) { other_code(random, &[x.default, STAR]) } else { 7 };
     let at = match random.below(3) {

@@ -1,22 +1,24 @@
-//! Labels straight from page 01, section "Labels". Nothing here is clever: a comparison collects every category
-//! that any of its labels names, adds one that none of them names, and tests the inequality at each.
+//! Labels: section 2 of docs/RULES.md, straight from page 01 (the user's rules, which that page restates).
+//! Nothing here is clever: a comparison collects every category that any of its labels names, adds one that
+//! none of them names, and tests the inequality at each.
 
 use std::collections::BTreeSet;
 
-/// "Level codes: star 0, level 0 is 1, level 1 is 2, level 2 is 3, level 3 is 4."
+/// RULES 2.1: "A level is kept as a code: star is 0, and levels 0, 1, 2 and 3 are 1, 2, 3 and 4."
 pub const STAR: u8 = 0;
 pub const LEVEL_0: u8 = 1;
 pub const LEVEL_1: u8 = 2;
 pub const LEVEL_2: u8 = 3;
 pub const LEVEL_3: u8 = 4;
-/// "Code 5, high star, occurs only in comparisons."
+/// RULES 2.1: "High star, 5, turns up only while labels are compared."
 pub const HIGH_STAR: u8 = 5;
 
-/// "A label is one default code and an array of eight words."
+/// RULES 2.2: "A label consists of a default code and eight words."
 pub const WORDS: usize = 8;
 /// The default in one byte, then eight words of eight bytes.
 pub const LABEL_LEN: usize = 65;
-/// "Numbers end at 2305843009213693951 (2^61 - 1)": this is the first number past the end.
+/// RULES 4.4: "The last number is 2305843009213693951, which is 2^61 - 1.": this is the first number past the
+/// end.
 pub const PAST_THE_END: u64 = 1 << 61;
 
 /// No well-formed label names category 0, so it stands for all the categories that nobody names.
@@ -28,7 +30,7 @@ pub struct Label {
     pub words: [u64; WORDS],
 }
 
-/// "A word holds category and level together: category times 8 plus code."
+/// RULES 2.3: "Any other word is a pair, 8 times its category plus its code: .."
 pub fn word(category: u64, code: u8) -> u64 {
     category * 8 + u64::from(code)
 }
@@ -56,7 +58,8 @@ impl Label {
         label
     }
 
-    /// "The default code in one byte, then eight words, little-endian"; any other length is no label.
+    /// RULES 2.6: ".. the default code in the first, then each word in eight, the lowest byte first."; any
+    /// other length is no label.
     pub fn parse(bytes: &[u8]) -> Option<Label> {
         if bytes.len() != LABEL_LEN {
             return None;
@@ -78,7 +81,7 @@ impl Label {
         bytes
     }
 
-    /// "Unused words are 0": the others, in their order.
+    /// RULES 2.3: "A word of 0 is unused.": the others, in their order.
     pub fn used_words(&self) -> Vec<u64> {
         self.words.iter().copied().filter(|word| *word != 0).collect()
     }
@@ -101,7 +104,7 @@ impl Label {
         self.default
     }
 
-    /// `bound` is "the call's own number".
+    /// `bound` is the call's own number (RULES 2.16).
     pub fn well_formed(&self, bound: u64, star_allowed: bool) -> bool {
         self.default_in_range()
             && self.used_words_come_first()
@@ -109,7 +112,7 @@ impl Label {
             && self.used_words().into_iter().all(|word| self.pair_suits(word, bound, star_allowed))
     }
 
-    /// "Default code 1 to 4."
+    /// RULES 2.14: "(c) the default code is 1, 2, 3 or 4;"
     fn default_in_range(&self) -> bool {
         LEVEL_0 <= self.default && self.default <= LEVEL_3
     }
@@ -118,13 +121,14 @@ impl Label {
         (1..WORDS).all(|i| self.words[i] == 0 || self.words[i - 1] != 0)
     }
 
-    /// "Categories strictly rising."
+    /// RULES 2.14: "(b) from each used word to the next the category grows;"
     fn categories_rise(&self) -> bool {
         let categories = self.categories();
         (1..categories.len()).all(|i| categories[i - 1] < categories[i])
     }
 
-    /// "Pair codes 0 to 4, no pair equal to the default, every category at least 1 and below the call's own number."
+    /// RULES 2.14: "(d) no pair's code is above 4; (e) no pair has the default's code; (f) each category is
+    /// at least 1 and less than n;"
     fn pair_suits(&self, word: u64, bound: u64, star_allowed: bool) -> bool {
         let category = category_of(word);
         let code = code_of(word);
@@ -135,7 +139,7 @@ impl Label {
             && (code != STAR || star_allowed)
     }
 
-    /// The label with one pair more, in sorted position; nothing "where a ninth pair would be needed".
+    /// The label with one pair more, in sorted position; nothing where it would be the ninth (RULES 6.12).
     pub fn insert(&self, category: u64, code: u8) -> Option<Label> {
         let mut pairs = self.pairs();
         pairs.push((category, code));
@@ -148,7 +152,7 @@ impl Label {
     }
 }
 
-/// "high(X): star read as 5."
+/// RULES 2.8: "high(X) is X with high star in place of star."
 pub fn high(code: u8) -> u8 {
     if code == STAR {
         HIGH_STAR
@@ -157,12 +161,13 @@ pub fn high(code: u8) -> u8 {
     }
 }
 
-/// "Join: the larger at each category."
+/// RULES 2.9: "join(X, Y) has at each category the greater of the two codes."
 pub fn join(a: u8, b: u8) -> u8 {
     a.max(b)
 }
 
-/// "floor(X, Y): star where either has star, else the larger."
+/// RULES 2.10: "floor(X, Y) has star at each category where X has star or Y has star, and the greater code at
+/// all others."
 pub fn floor(a: u8, b: u8) -> u8 {
     if a == STAR || b == STAR {
         STAR
@@ -171,7 +176,7 @@ pub fn floor(a: u8, b: u8) -> u8 {
     }
 }
 
-/// Whether the test holds "for every category, so the defaults are compared too".
+/// Whether the test holds "at each category c that there is, named by a pair or not" (RULES 2.7).
 fn at_every_category(labels: &[&Label], test: impl Fn(u64) -> bool) -> bool {
     let mut categories = BTreeSet::new();
     for label in labels {
@@ -181,7 +186,7 @@ fn at_every_category(labels: &[&Label], test: impl Fn(u64) -> bool) -> bool {
     categories.into_iter().all(test)
 }
 
-/// "X flows to Y: X(c) ≤ Y(c) for every category."
+/// RULES 2.7: "X flows to Y if X(c) ≤ Y(c) at each category c that there is, named by a pair or not."
 pub fn flows(x: &Label, y: &Label) -> bool {
     at_every_category(&[x, y], |c| x.level(c) <= y.level(c))
 }
@@ -206,12 +211,12 @@ pub fn flows_to_join_high(x: &Label, y: &Label, z: &Label) -> bool {
     at_every_category(&[x, y, z], |c| x.level(c) <= join(y.level(c), high(z.level(c))))
 }
 
-/// "T may read O: O flows to high(T)."
+/// RULES 2.12: "T may read O if O's label flows to high(T's label)."
 pub fn may_read(t: &Label, o: &Label) -> bool {
     flows_to_high(o, t)
 }
 
-/// "T may write O: T flows to O, and O flows to high(T)."
+/// RULES 2.13: "T may write O if T's label flows to O's label and T may read O."
 pub fn may_write(t: &Label, o: &Label) -> bool {
     flows(t, o) && flows_to_high(o, t)
 }

@@ -1,9 +1,11 @@
-//! "Spare reckoned from history", kept from the calls and their answers alone, beside the model.
+//! The spare reckoned from history (RULES 3.8), kept from the calls and their answers alone, beside the
+//! model.
 
 use crate::model::{Call, Outcome, World, GRANTED, ROOT_QUOTA};
 use std::collections::BTreeMap;
 
-/// "Units granted at creation, plus units moved in, less units moved back."
+/// RULES 3.8: "Take the units it was created with .., add those moved into it, and subtract those moved back
+/// out of it, .."
 #[derive(Clone, Debug, Default)]
 struct Account {
     granted: i64,
@@ -11,8 +13,8 @@ struct Account {
     moved_back: i64,
 }
 
-/// "The quota it had when its present link here was made and the units moved from here into it since then", and "the
-/// units taken back from it since then".
+/// RULES 3.8: ".. the quota it had when that link was made and the units moved from D into it since, and add
+/// the units moved back from it since."
 #[derive(Clone, Debug, Default)]
 struct Charge {
     when_linked: i64,

@@ -1,4 +1,6 @@
-//! An independent reading of page 01 in plain Rust, to compare the kernel with.
+//! An independent reading of page 01 in plain Rust, to compare the kernel with. Page 01 is the user's rules,
+//! which docs/RULES.md restates; this was written from page 01 alone, before docs/RULES.md was there.
+//! Comments quote docs/RULES.md by number, as `RULES 3.4: ".."`, so that they can be looked up.
 
 pub mod antt;
 pub mod ask;

@@ -1,5 +1,5 @@
-//! The kernel of page 01 as plain data: objects by id, links, and the bytes of segments. It has no rows, no blocks and
-//! no book, so answer 1 is not its business.
+//! The kernel of page 01 (the user's rules, which docs/RULES.md restates) as plain data: objects by id,
+//! links, and the bytes of segments. It has no rows, no blocks and no book, so answer 1 is not its business.
 
 mod creates;
 mod gates;
@@ -30,9 +30,9 @@ pub const BEYOND_THE_LENGTH: u64 = 11;
 pub const NINTH_PAIR: u64 = 12;
 pub const NOT_ENOUGH_SPARE: u64 = 13;
 
-/// "A first number f, from 1 to 2305843009213693949."
+/// RULES 7.1: "Start takes a first number f, at least 1 and at most 2305843009213693949."
 pub const LAST_FIRST_NUMBER: u64 = PAST_THE_END - 3;
-/// "Document 002 gives the root an endless quota; here it is 256."
+/// RULES 3.6: "The root's quota is 256 for good."
 pub const ROOT_QUOTA: u64 = 256;
 pub const DESCRIPTION_LEN: usize = 32;
 pub const CLOSURE_LEN: usize = 32;
@@ -84,8 +84,8 @@ fn lent_label(bytes: &[u8], number: u64) -> Result<Label, u64> {
     lent(bytes, number, true)
 }
 
-/// A lent clearance, or a lent label of a container or segment: "star stands only in labels of threads and gates and
-/// in the verify label, never in a clearance".
+/// A lent clearance, or a lent label of a container or segment. RULES 2.15, of star: "It may stand in no
+/// clearance, and in no label of a segment or container."
 fn lent_starless(bytes: &[u8], number: u64) -> Result<Label, u64> {
     lent(bytes, number, false)
 }
@@ -98,8 +98,9 @@ fn lent(bytes: &[u8], number: u64, star_allowed: bool) -> Result<Label, u64> {
 }
 
 impl World {
-    /// "It makes the root container f (label {1}, quota 256, mask 0) and in it thread f+1 (label {1}, clearance {2}),
-    /// descriptions all zero. The next call has number f+2. Any other f answers 4."
+    /// RULES 7.3: "Container f becomes the root, with label {1}, quota 256 and mask 0; thread f + 1 is linked
+    /// in it, with label {1} and clearance {2}; both descriptions are zeros." 7.4: "The next number is f +
+    /// 2." 7.2: ".. 4 if f is not in that range."
     pub fn start(first: u64) -> Result<World, u64> {
         need((1..=LAST_FIRST_NUMBER).contains(&first), MALFORMED)?;
         let label = Label::plain(LEVEL_1);
@@ -119,7 +120,8 @@ impl World {
         Ok(world)
     }
 
-    /// "Every call takes the next number, granted or not, except after answers 1 and 2."
+    /// RULES 4.2: "Each call uses up its number, granted or refused, and the next number is then one higher.
+    /// Only answers 1 and 2 use up none."
     pub fn call(&mut self, caller: u64, call: &Call) -> Outcome {
         if self.next >= PAST_THE_END {
             return Outcome { answer: NUMBERS_ENDED, value: 0, output: Vec::new() };
@@ -173,7 +175,8 @@ impl World {
         }
     }
 
-    /// "A named container is absent, no container, or unreadable to the caller": one answer, whichever it is.
+    /// RULES 6.5: "A container that the call names does not exist, is an object of another kind, or may not
+    /// be read by the caller; ..": one answer, whichever it is.
     fn readable_container(&self, t: &Caller, d: u64) -> Result<&Object, u64> {
         match self.objects.get(&d) {
             Some(object) if object.kind() == Kind::Container && may_read(&t.label, &object.label) => {
@@ -183,7 +186,8 @@ impl World {
         }
     }
 
-    /// The object of the entry (D, O). "The pair (D, D) is an entry only for call 16": no container holds itself.
+    /// The object of the entry (D, O). RULES 8.16: ".. no other call takes (D, D) for an entry.": no
+    /// container is linked in itself.
     fn entry(&self, t: &Caller, d: u64, o: u64) -> Result<&Object, u64> {
         self.readable_container(t, d)?;
         match self.objects.get(&o) {
@@ -196,7 +200,8 @@ impl World {
         self.objects.get(&d).map_or(false, |object| may_write(&t.label, &object.label))
     }
 
-    /// A live object's units in use: "a container uses 1 plus the quotas of all objects linked in it".
+    /// A live object's units in use. RULES 3.3: "A container uses 1 unit and the quotas of all that is linked
+    /// in it."
     pub fn uses(&self, id: u64) -> u64 {
         match &self.objects[&id].body {
             Body::Thread { .. } | Body::Gate { .. } => 1,
@@ -207,7 +212,7 @@ impl World {
         }
     }
 
-    /// "Spare is quota less use."
+    /// RULES 3.4: "An object's spare is its quota minus the units it uses."
     pub fn spare(&self, id: u64) -> u64 {
         self.objects[&id].quota - self.uses(id)
     }

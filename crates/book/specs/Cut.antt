@@ -77,14 +77,14 @@ heldMarked v h = collect rowCount (λ r. cond (heldRow v r) 1 (getD h r 0))
 abbrev pub spared : View → ℕ → ℕ → ℕ → Bool
 spared v r root held = either (eqb held 1) (eqb (idOf v r) root)
 
--- any other is freed
+-- any other is freed. RULES 1.10: "To free one is to set the mark that docs/BOOK.md names to 0, .."
 unfoldable pub rowFreed : View → ℕ → ℕ → ℕ → View
 rowFreed v r root held = cond (spared v r root held) v (putT kindT r 0 v)
 
 unfoldable pub rowsFreed : List ℕ → View → View
 rowsFreed h v = onTab kindT (λ k. collect rowCount (λ r. cond (spared v r (rootOf v) (getD h r 0)) (getD k r 0) 0)) v
 
--- "An object with no link left is freed." The root has none and stays.
+-- RULES 8.8: "An object that is linked nowhere any more is freed, except the root."
 unfoldable pub rowsSwept : View → View
 rowsSwept v = onTab kindT (λ k. collect rowCount (λ r. cond (either (heldRow v r) (eqb (idOf v r) (rootOf v))) (getD k r 0) 0)) v
 
@@ -105,7 +105,7 @@ blockFreed v b = cond (orphan v b) (putT ownerT b 0 v) v
 unfoldable pub blocksSwept : View → View
 blocksSwept v = onTab ownerT (λ l. collect blockCount (λ b. cond (orphan v b) 0 (getD l b 0))) v
 
--- "a freed segment's blocks are set to zero"
+-- RULES 8.8: "The blocks of a freed segment are set to zero."
 unfoldable pub areaSwept : View → List ℕ → List ℕ
 areaSwept v area = collect areaSize (λ j. cond (orphan v (j / blockSize)) 0 (getD area j 0))
 

@@ -1,5 +1,7 @@
--- How each change of the rules is made on rows, links, blocks and the data area. A new row, link or block is the lowest free one, so what a change
--- leaves is fixed to the byte. Laws/ has for each that the world it leaves is the change applied to the world before.
+-- How each change of the rules is made on rows, links, blocks and the data area. RULES 1.10: "When a row or a
+-- link of the book or a block of the data area is needed, the free one with the lowest number is taken, .."
+-- So what a change leaves is fixed to the byte. Laws/ has for each that the world it leaves is the change
+-- applied to the world before.
 use Prim.Native.Nat.{ℕ, zero, suc, _+_, _*_, _-_, _/_, _%_}
 use mathlib.Core.Bool.{Bool, true, false, not, cond}
 use mathlib.Core.List.{List, [], _∷_, _++_}
@@ -13,7 +15,7 @@ use Rattle.tables.specs.Layout.{View, rowCount, linkCount, blockCount, empty, o
 use Rattle.book.specs.Book.{nextOf, rootOf, idOf, codeOf, lenOf, markOf, fromOf, toOf, ownerOf, indexOf, blocksOf, first, onFound, rowOf, collect, worldOf}
 use Rattle.book.specs.declared.Found.{Found}
 
--- "the data area of 16,384 bytes, which is 256 blocks of 64"
+-- RULES 1.8: ".. the data area, 16,384 bytes in 256 blocks of 64."
 abbrev pub areaSize : ℕ
 areaSize = blockCount * blockSize
 
@@ -108,7 +110,7 @@ freeBlock v = first blockCount (λ b. eqb (ownerOf v b) 0)
 unfoldable pub padded : ℕ → List ℕ → List ℕ
 padded n l = take n (l ++ replicate n 0)
 
--- "A create writes every field of its row, zero where the kind has none."
+-- docs/BOOK.md: "A create writes every number of its row, and 0 where the kind has none."
 unfoldable pub rowFilled : ℕ → ℕ → Obj → View → View
 rowFilled r id x v =
     runT closureT (r * textSize) (padded textSize (x .closure))
@@ -134,7 +136,7 @@ linkFilled l c o v = putT linkToT l o (putT linkFromT l (c + 1) v)
 unfoldable pub blockAdded : ℕ → ℕ → View → View
 blockAdded r k v = onFound (freeBlock v) (λ b. putT indexT b k (putT ownerT b (r + 1) v)) v
 
--- "New blocks of a resize are taken in rising index": n blocks more, from block k on
+-- RULES 8.14: "Blocks are gained in the order of their place in the segment.": n blocks more, from block k on
 unfoldable pub blocksAdded : ℕ → ℕ → ℕ → View → View
 blocksAdded r k zero v = v
 blocksAdded r k (suc n) v = blocksAdded r (suc k) n (blockAdded r k v)
@@ -148,8 +150,10 @@ blocksDropped r k v =
 unfoldable pub lengthened : ℕ → ℕ → View → View
 lengthened r n v = putT lenT r n (blocksAdded r (blocksOf (lenOf v r)) (blocksOf n - blocksOf (lenOf v r)) (blocksDropped r (blocksOf n) v))
 
--- byte j of the data area, where row r had its blocks by v and has them by u, and its bytes are b now: a byte within b is b's; a byte of a freed block, of a new
--- block past b, and between the new and the old length is 0; every other stays
+-- byte j of the data area, where row r had its blocks by v and has them by u, and its bytes are b now: a byte
+-- within b is b's; a byte of a freed block, of a new block past b, and between the new and the old length is 0;
+-- every other stays. RULES 8.14: "A block that is gained or lost is zero as a whole, and no other byte of the
+-- area changes."
 unfoldable pub byteAfter : View → View → ℕ → List ℕ → List ℕ → ℕ → ℕ
 byteAfter v u r b area j =
     cond (eqb (ownerOf u (j / blockSize)) (r + 1))
@@ -210,7 +214,8 @@ enactArea (link d o) v area = area
 
 -- ---- Start
 
--- "It clears the data area and makes the root container f .. and in it thread f+1"; every field that is not theirs is 0
+-- RULES 7.3: "Container f becomes the root, ..; thread f + 1 is linked in it, .. The data area is cleared,
+-- and so is all else in the book."
 unfoldable pub startView : ℕ → View
 startView f =
     linkFilled 0 0 1

@@ -29,7 +29,8 @@ leads v c o l = both (eqb (markOf v l) (c + 1)) (eqb (toOf v l) o)
 unfoldable pub linkBetween : View → ℕ → ℕ → Found
 linkBetween v c o = first linkCount (leads v c o)
 
--- "An entry lookup answers with the object's place or with nothing": the rows of the container d and of the object o, and the link between them
+-- An entry (RULES 6.15) as it is looked up, but for whether d may be read: its place, which is the rows of
+-- the container d and of the object o and the link between them, or nothing
 unfoldable pub entryPlace : View → ℕ → ℕ → Entry
 entryPlace v d o =
     onFound (containerRow v d)

@@ -1,4 +1,4 @@
--- Page 01: "A book is sound when: ..". One field for each clause, in its words and order.
+-- RULES 5: "A book is sound if 5.1 to 5.10 hold." One field or more for each of these rules, in their order.
 use Prim.Native.Nat.{ℕ, suc, _+_, _-_, _<_, _≤_}
 use mathlib.Core.Bool.{Bool, true, false}
 use mathlib.Core.Path.{_≡_}
@@ -41,7 +41,9 @@ timesHeld v r k = Σ blockCount (λ b. when (isBlock v r k b) 1)
 
 -- ---- ranges
 
--- kind 1 to 4; thread and gate have quota 1, others 1 to 256 (255 but for the root, as the tree shows); a segment's length and fixed mark, a container's mask
+-- RULES 5.1: ".. a kind 1 to 4; a thread or gate has quota 1, the root 256, anything else 1 to 255; a mask is
+-- at most 15, a length at most 16,256, a fixed mark 0 or 1; .." (That only the root has more than 255 comes
+-- from 5.5 and 5.8.)
 pub record Range (code q n fixed mask : ℕ) : Type 0 where
   pub code-most : code ≤ maxCode
   pub quota-some : 1 ≤ q
@@ -51,20 +53,20 @@ pub record Range (code q n fixed mask : ℕ) : Type 0 where
   pub fixed-most : code ≡ segmentCode → fixed ≤ 1
   pub mask-most : code ≡ containerCode → mask ≤ maxMask
 
--- a link leads from a live container to a live object
+-- RULES 5.1: ".. a link leads from a container to an object, ..": both are live
 pub record Ends (v : View) (l : ℕ) : Type 0 where
   pub from-low : fromOf v l < rowCount
   pub from-container : codeOf v (fromOf v l) ≡ containerCode
   pub to-low : toOf v l < rowCount
   pub to-live : codeOf v (toOf v l) ≡ 0 → ⊥
 
--- a block belongs to a live segment that is long enough to have it
+-- RULES 5.1: ".. a block in use belongs to a segment.": a live one that is long enough to have it
 pub record Owned (v : View) (b : ℕ) : Type 0 where
   pub owner-low : ownerOf v b - 1 < rowCount
   pub owner-segment : codeOf v (ownerOf v b - 1) ≡ segmentCode
   pub within : indexOf v b < blocksOf (lenOf v (ownerOf v b - 1))
 
--- the root: a container of quota 256 with the root's id, to which no link leads
+-- RULES 5.5: "One container of quota 256 is the root, linked nowhere, ..": it has the root's id
 pub record Root (v : View) (r : ℕ) : Type 0 where
   pub low : r < rowCount
   pub is-container : codeOf v r ≡ containerCode
@@ -75,32 +77,36 @@ pub record Root (v : View) (r : ℕ) : Type 0 where
 -- ---- sound
 
 pub record Sound (v : View) : Type 0 where
-  -- "every field is in its range"
+  -- RULES 5.1: "Each field has a value in its range: .."
   pub next-most : nextOf v ≤ suc lastNumber
   pub ranges : (r : ℕ) → Live v r → Range (codeOf v r) (quotaOf v r) (lenOf v r) (fixedOf v r) (maskOf v r)
   pub ends : (l : ℕ) → On v l → Ends v l
-  -- "ids are distinct and below the next number"
+  -- RULES 5.1: ".. an id at least 1, .." 5.2: "No two objects share an id, and each id is less than the next
+  -- number."
   pub ids-from : (r : ℕ) → Live v r → 1 ≤ idOf v r
   pub ids-below : (r : ℕ) → Live v r → idOf v r < nextOf v
   pub ids-apart : (r s : ℕ) → Live v r → Live v s → s < r → idOf v r ≡ idOf v s → ⊥
-  -- "labels are well formed against it", star only in labels of threads and gates
+  -- RULES 5.3: "Each label and clearance is well formed below the next number." Star stands in labels of
+  -- threads and gates only (2.15).
   pub labels : (r : ℕ) → Live v r → wellFormed (nextOf v) (isThreadOrGate (codeOf v r)) (labelOf v r) ≡ true
   pub clearances : (r : ℕ) → Live v r → ThreadOrGate (codeOf v r) → wellFormed (nextOf v) false (clearanceOf v r) ≡ true
-  -- "thread and gate labels flow to their clearances"
+  -- RULES 5.4: "The label of a thread or gate flows to its clearance."
   pub flow : (r : ℕ) → Live v r → ThreadOrGate (codeOf v r) → flows (labelOf v r) (clearanceOf v r) ≡ true
-  -- "containers form a tree under one root of quota 256"
+  -- RULES 5.5: "One container of quota 256 is the root, linked nowhere, and all other containers hang from it
+  -- in a tree."
   pub root : (r : ℕ) × Root v r
-  -- "every other object has a link"
+  -- RULES 5.6: "Any other object is linked somewhere."
   pub some-link : (r : ℕ) → Live v r → (idOf v r ≡ rootOf v → ⊥) → 1 ≤ linksTo v r
-  -- "exactly one unless it is a segment with its quota fixed"
+  -- RULES 5.6: "Only a segment whose quota is fixed may be linked in more than one container."
   pub one-link : (r : ℕ) → Live v r → ((codeOf v r ≡ segmentCode) × (fixedOf v r ≡ 1) → ⊥) → linksTo v r ≤ 1
-  -- "no link occurs twice"
+  -- RULES 5.7: "No object is linked twice in one container."
   pub links-apart : (l m : ℕ) → On v l → On v m → m < l → fromOf v l ≡ fromOf v m → toOf v l ≡ toOf v m → ⊥
-  -- "use never exceeds quota"
+  -- RULES 5.8: "No object uses more units than its quota has."
   pub container-fits : (r : ℕ) → Live v r → codeOf v r ≡ containerCode → 1 + chargedTo v r ≤ quotaOf v r
   pub segment-fits : (r : ℕ) → Live v r → codeOf v r ≡ segmentCode → units (lenOf v r) ≤ quotaOf v r
-  -- "a child's mask includes its parent's"
+  -- RULES 5.9: "A container's mask has all bits of the mask of the container that it is linked in."
   pub masks : (l : ℕ) → On v l → codeOf v (toOf v l) ≡ containerCode → bitOr (maskOf v (toOf v l)) (maskOf v (fromOf v l)) ≡ maskOf v (toOf v l)
-  -- "each segment has exactly its blocks and no block has two owners"
+  -- RULES 5.10: "A segment has one block for each 64 bytes that it has or begins, no more and no fewer, and a
+  -- block belongs to at most one segment."
   pub owned : (b : ℕ) → Used v b → Owned v b
   pub blocks-once : (r : ℕ) → Live v r → codeOf v r ≡ segmentCode → (k : ℕ) → k < blocksOf (lenOf v r) → timesHeld v r k ≡ 1

@@ -1,4 +1,5 @@
--- Page 01: "A book is sound when: ..", as a test that computes. Laws/Means says that it holds exactly of sound books.
+-- Section 5 of docs/RULES.md, when a book is sound, as a test that computes. Laws/Means says that it holds
+-- exactly of sound books.
 use Prim.Native.Nat.{ℕ, zero, suc, _+_, _-_}
 use mathlib.Core.Bool.{Bool, true, false, not, cond, _&&_}
 use mathlib.Core.List.{List}

@@ -5,7 +5,8 @@ ghost use Rattle.book.specs.Book.{isThreadOrGate};
 // In place of a kind's code where the row is free.
 pub const FREE: u8 = 0;
 
-// "Four kinds of object: 1 thread, 2 gate, 3 segment, 4 container."
+// RULES 1.1: "An object is of one of four kinds, each with a code: thread (1), gate (2), segment (3),
+// container (4)."
 pub const THREAD: u8 = 1;
 
 pub const GATE: u8 = 2;
@@ -14,7 +15,7 @@ pub const SEGMENT: u8 = 3;
 
 pub const CONTAINER: u8 = 4;
 
-// "Mask: bit 0 thread to bit 3 container, at most 15".
+// RULES 1.6: "A container also has a mask, a number from 0 to 15 that forbids kinds: .."
 pub const MAX_MASK: u8 = 15;
 
 // Whether the code of a live row is a thread's or a gate's: these have a clearance, and star may stand in their labels.

@@ -66,7 +66,7 @@ pub fn use_of(b: &[u8], r: usize) -> u64
     1
 }
 
-// "Spare is quota less use."
+// RULES 3.4: "An object's spare is its quota minus the units it uses."
 pub fn spare_of(b: &[u8], r: usize) -> u64
     requires { ⌜ (length (now b) ≡ size) × Sound (view (now b)) × Live (view (now b)) r ⌝ }
     ensures { λ x. ⌜ x ≡ spareAt (view (now (b .entry))) r ⌝ }

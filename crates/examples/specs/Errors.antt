@@ -1,4 +1,5 @@
--- Short histories, each through a rule that is easily got wrong (page 01, "Easy errors here"). All start at 5: the root is 5, its thread 6, the first call 7.
+-- Short histories, each through a rule that is easily got wrong (most are those of RULES 10.3). All start at
+-- 5: the root is 5, its thread 6, the first call 7.
 use Prim.Native.Nat.{ℕ, _+_}
 use mathlib.Core.Path.{_≡_, refl}
 use mathlib.Core.List.{List, [], _∷_}
@@ -26,7 +27,8 @@ owner = lent 2 ((7, 0) ∷ [])
 clearance : List ℕ
 clearance = lent 3 ((7, 4) ∷ [])
 
--- "Answering 7 for an unreadable container and 5 for an absent one: existence leaks." Container 8 is unreadable to thread 9, 77 is nobody.
+-- RULES 10.3: "(a) to answer 7 where a container may not be read and 5 where there is none, which tells that
+-- it exists;" Container 8 is unreadable to thread 9, 77 is nobody.
 existence : List Turn
 existence =
     turn 6 createCategory
@@ -40,7 +42,8 @@ existence =
 existence-said : List Said
 existence-said = said 0 7 [] ∷ said 0 8 [] ∷ said 0 9 [] ∷ said 5 0 [] ∷ said 5 0 [] ∷ said 0 12 [] ∷ []
 
--- "Comparing named categories only." Nobody names a category here: {2} does not flow to {1}, so the thread at {1} cannot read, nor that at {2} write below it.
+-- RULES 10.3: "(b) to compare labels only at the categories that they name;" Nobody names a category here:
+-- {2} does not flow to {1}, so the thread at {1} cannot read, nor that at {2} write below it.
 unnamed : List Turn
 unnamed =
     turn 6 (createSegment 5 two zeros32 0)
@@ -53,14 +56,16 @@ unnamed =
 unnamed-said : List Said
 unnamed-said = said 0 7 [] ∷ said 7 0 [] ∷ said 0 0 [] ∷ said 0 0 [] ∷ said 7 0 [] ∷ []
 
--- "Letting a refused call keep its number for the next one." The root has 254 to spare; call 7 wants 255 and takes its number all the same.
+-- RULES 10.3: "(c) to give the number of a refused call to the next one;" The root has 254 to spare; call 7
+-- wants 255 and takes its number all the same.
 numbers : List Turn
 numbers = turn 6 (createSegment 5 one zeros32 255) ∷ turn 6 (createSegment 5 one zeros32 254) ∷ turn 6 (createSegment 5 one zeros32 1) ∷ []
 
 numbers-said : List Said
 numbers-said = said 13 0 [] ∷ said 0 8 [] ∷ said 13 0 [] ∷ []
 
--- "Clearing a block when it is freed and trusting it to be zero later": what was cut off reads as zero when the segment grows again.
+-- RULES 10.3: "(d) to set a block to zero when it is freed, and rely on that when it is taken again;" What
+-- was cut off reads as zero when the segment grows again.
 cleared : List Turn
 cleared =
     turn 6 (createSegment 5 one zeros32 0)
@@ -78,7 +83,8 @@ cleared-said : List Said
 cleared-said =
     said 0 7 [] ∷ said 0 0 [] ∷ said 0 0 [] ∷ said 0 0 [] ∷ said 0 0 [] ∷ said 0 0 (9 ∷ 8 ∷ 0 ∷ 0 ∷ []) ∷ said 11 0 [] ∷ said 0 0 [] ∷ said 11 0 [] ∷ []
 
--- "Counting a second link's charge once." Segment 8 (quota 6) lies in the root and in container 7 (quota 10), and is charged in both; cutting one link gives back six there.
+-- RULES 10.3: "(e) to charge a segment that is linked twice only once." Segment 8 (quota 6) lies in the root
+-- and in container 7 (quota 10), and is charged in both; cutting one link gives back six there.
 charged-twice : List Turn
 charged-twice =
     turn 6 (createContainer 5 one zeros32 0 10)
@@ -102,7 +108,8 @@ charged-twice-said =
     said 0 7 [] ∷ said 0 8 [] ∷ said 9 0 [] ∷ said 0 0 [] ∷ said 0 0 [] ∷ said 10 0 [] ∷ said 13 0 [] ∷ said 0 14 [] ∷ said 13 0 [] ∷ said 0 16 [] ∷ said 0 0 []
     ∷ said 0 0 [] ∷ said 13 0 [] ∷ said 0 20 [] ∷ []
 
--- Container 7 forbids segments (bit 2), and 9 in it gets the bit too; "the mask is judged at creation only", so a link still brings one in.
+-- Container 7 forbids segments (bit 2), and 9 in it gets the bit too. RULES 8.4: "No other call looks at a
+-- mask." So a link still brings one in.
 masked : List Turn
 masked =
     turn 6 (createContainer 5 one zeros32 4 20)

@@ -1,4 +1,4 @@
--- Page 01's `grantday`, computed from the rules.
+-- The day `grantday` of RULES 10.2, computed from the rules.
 use Prim.Native.Nat.{ℕ, _+_}
 use mathlib.Core.Path.{_≡_, refl}
 use mathlib.Core.List.{List, [], _∷_}
@@ -40,7 +40,7 @@ turns =
     ∷ turn 101 (moveQuota 100 103 (into 1))
     ∷ []
 
--- page 01's sixteen lines: answer and value
+-- the sixteen lines of RULES 10.2: answer and value
 printed : List Said
 printed =
     said 0 102 []

@@ -1,5 +1,6 @@
--- What W5 shuts out: two kernels that leak. Each is page 01's but for one answer, and neither hides tainted
--- work: after two alike histories of the day in Unseen, thread 6 asks one question and is told two things.
+-- What W5 (docs/RULES.md, section 12) shuts out: two kernels that leak. Each is that of the rules but for one
+-- answer, and neither hides tainted work: after two alike histories of the day in Unseen, thread 6 asks one
+-- question and is told two things.
 use Prim.Native.Nat.{ℕ}
 use native.Mathlib.Omega.{arith}
 use mathlib.Core.Bool.{Bool, true, false, not, cond, _&&_, _||_}
@@ -50,7 +51,8 @@ module _ (kernel : Kernel) where
           (turn raised raised 9 x y (turn noon noon 9 (setLabel dark) (setLabel dark) same-start (λ u. refl))
           (λ u. not-untainted 7 (raised .obj 9) (t .tainted) u))
 
--- ---- "Answering 7 for an unreadable container and 5 for an absent one: existence leaks."
+-- ---- RULES 10.3: "(a) to answer 7 where a container may not be read and 5 where there is none, which tells
+-- that it exists;"
 
 -- one of these containers is there, and t may not read it
 unfoldable pub unreadable : World → Obj → List ℕ → Bool
@@ -65,7 +67,7 @@ instead u (grant v b h) = grant v b h
 unfoldable pub tellsExistence : Kernel
 tellsExistence w c x = instead (unreadable w (w .obj c) (containersNamed x)) (call w c x)
 
--- ---- "Nothing is ever refused for want of room elsewhere."
+-- ---- demand 3 (docs/DEMANDS.md): "Nothing is ever refused for want of room elsewhere."
 
 -- 13 if the store is full
 unfoldable pub crowded : Bool → Verdict → Verdict

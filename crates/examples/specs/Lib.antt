@@ -1,4 +1,5 @@
--- Worked examples: what page 01 says comes out of the rules by computing.
+-- Worked examples: what docs/RULES.md says of them (section 10), and what an independent program says, comes
+-- out of the definitions of `labels` and `rules` by computing.
 pub mod Paper
 pub mod Play
 pub mod Grantday

@@ -1,5 +1,6 @@
--- The premises of the theorems over histories are met: page 01's `grantday`, taken up to several of its calls, has what they ask for, and what they promise
--- is what it computes. Container 103 is granted 20 units for thread 101's work; thread 107 is a neighbour that may not write it.
+-- The premises of the theorems over histories are met: `grantday` (RULES 10.2), taken up to several of its
+-- calls, has what they ask for, and what they promise is what it computes. Container 103 is granted 20 units
+-- for thread 101's work; thread 107 is a neighbour that may not write it.
 use Prim.Native.Nat.{ℕ, _≤_, _<_}
 use native.Mathlib.Omega.{arith}
 use mathlib.Core.Bool.{true, false}

@@ -1,6 +1,7 @@
--- W5 at work. Thread 6 makes category 7, a container and a thread tainted in it, and gives up its star. From
--- there on two histories go side by side: the tainted thread does one thing in the one and another in the
--- other, and thread 6, which looks, creates, writes and reads, is told the same in both.
+-- W5 (docs/RULES.md, section 12) at work. Thread 6 makes category 7, a container and a thread tainted in it,
+-- and gives up its star. From there on two histories go side by side: the tainted thread does one thing in
+-- the one and another in the other, and thread 6, which looks, creates, writes and reads, is told the same in
+-- both.
 use Prim.Native.Nat.{ℕ, _<_}
 use mathlib.Core.Bool.{Bool, true, false, not, _&&_}
 use mathlib.Core.Path.{_≡_, refl}

@@ -1,5 +1,5 @@
--- Which refusal numbers each call has, by page 01's table and its list of calls; what a refused call leaves; what answer 0 means, and how many bytes a
--- granted call puts out.
+-- Which refusal numbers each call has, by sections 6 and 8 of docs/RULES.md; what a refused call leaves; what
+-- answer 0 means, and how many bytes a granted call puts out.
 use Prim.Native.Nat.{ℕ, suc}
 use mathlib.Core.Bool.{Bool, false, _||_}
 use mathlib.Core.Path.{_≡_}
@@ -12,7 +12,8 @@ unfoldable pub oneOf : ℕ → List ℕ → Bool
 oneOf k [] = false
 oneOf k (n ∷ ns) = eqb k n || oneOf k ns
 
--- the numbers from 4 on that a call can be refused by; every call can be refused by 2 and 3
+-- the numbers from 4 on that a call can be refused by. RULES 8: "Refusals 1, 2 and 3 come first in every
+-- call. .. The other refusals are named with each call, in order, and it has no more."
 unfoldable pub numbersOf : Call → List ℕ
 numbersOf createCategory = 12 ∷ []
 numbersOf (setLabel l) = 4 ∷ 7 ∷ []
@@ -31,7 +32,7 @@ numbersOf (resize d s m) = 4 ∷ 5 ∷ 6 ∷ 7 ∷ 13 ∷ []
 numbersOf (enterGate d g lr cr lv out) = 4 ∷ 5 ∷ 6 ∷ 7 ∷ []
 numbersOf (look d o out) = 4 ∷ 5 ∷ []
 
--- v is w but for the next number, which has moved on by one
+-- v is w but for the next number, which has moved on by one: RULES 6.14
 pub record NumberTaken (w v : World) : Type 0 where
   pub next : v .next ≡ suc (w .next)
   pub root : v .root ≡ w .root
@@ -44,7 +45,8 @@ pub record Granted (w : World) (c : ℕ) (x : Call) : Type 0 where
   pub verdict : call w c x ≡ grant (valueOf (call w c x)) (outputOf (call w c x)) change
   pub world : after w c x ≡ apply change w
 
--- call 12 puts out the bytes asked for, call 15 "the closure bytes", call 16 "output 104 bytes", and no other call any
+-- call 12 puts out the bytes asked for (RULES 8.12), call 15 32 closure bytes (8.15), call 16 104 bytes
+-- (8.16), and no other call any
 unfoldable pub outputSize : Call → ℕ
 outputSize createCategory = 0
 outputSize (setLabel l) = 0

@@ -9,6 +9,6 @@ unfoldable pub firstNumber : History → ℕ
 firstNumber (started f) = f
 firstNumber (next h c x) = firstNumber h
 
--- "a first number f, from 1 to 2305843009213693949"
+-- RULES 7.1: "Start takes a first number f, at least 1 and at most 2305843009213693949."
 abbrev pub WellStarted : History → Type 0
 WellStarted h = startable (firstNumber h) ≡ true

@@ -1,4 +1,5 @@
--- The numbers that calls issue, in the order in which they were issued. Page 01: "An id or category that a call issues is the call's own number."
+-- The numbers that calls issue, in the order in which they were issued. RULES 4.3: "A call that issues an id
+-- or a category issues its own number."
 use Prim.Native.Nat.{ℕ, _+_, _<_}
 use mathlib.Core.Bool.{Bool, cond, _&&_, _||_}
 use mathlib.Core.Path.{_≡_}
@@ -7,7 +8,7 @@ use lib.ListN.{length, getD}
 use lib.Dec.{eqb, leb}
 use Rattle.rules.specs.Kernel.{Call, createCategory, setLabel, setClearance, createContainer, createSegment, createGate, createThread, unreference, linkSegment, fixQuota, moveQuota, read, write, resize, enterGate, look, call, answerOf, valueOf, History, started, next, worldAfter}
 
--- the calls as page 01 counts them
+-- the calls as docs/RULES.md counts them: rule 8.n is call n
 unfoldable pub callNumber : Call → ℕ
 callNumber createCategory = 1
 callNumber (setLabel l) = 2
@@ -30,7 +31,8 @@ callNumber (look d o out) = 16
 unfoldable pub creates : Call → Bool
 creates x = leb 4 (callNumber x) && leb (callNumber x) 7
 
--- "Calls 1 and 4 to 7 have their own number as value; others 0 except 15."
+-- RULES 8.1: "Value: the category, which is the call's own number." 8.4: "The object is made with the call's
+-- own number as its id, .. Value: its id."
 unfoldable pub issues : Call → Bool
 issues x = eqb (callNumber x) 1 || creates x
 

@@ -1,5 +1,7 @@
--- Page 01 as definitions that compute: what the kernel holds, the calls as data, and for any world, caller and call the answer, the
--- value, the output and the world after. There are no positions here: objects go by id, links are pairs of ids, bytes lie in their segment.
+-- The rules of docs/RULES.md as definitions that compute: what the kernel holds, the calls as data, and for
+-- any world, caller and call the answer, the value, the output and the world after. There are no positions
+-- here: objects go by id, links are pairs of ids, bytes lie in their segment. `RULES 3.4: ".."` quotes rule
+-- 3.4 of that page.
 use Prim.Native.Nat.{ℕ, zero, suc, _+_, _*_, _-_, _/_, _%_, _^_}
 use mathlib.Core.Bool.{Bool, true, false, not, cond, _&&_, _||_}
 use mathlib.Core.List.{List, [], _∷_, _++_}
@@ -16,7 +18,8 @@ use Rattle.quotas.specs.Any.{any}
 
 -- ---- numbers, each named once
 
--- "Four kinds of object: 1 thread, 2 gate, 3 segment, 4 container."
+-- RULES 1.1: "An object is of one of four kinds, each with a code: thread (1), gate (2), segment (3),
+-- container (4)."
 abbrev pub threadCode : ℕ
 threadCode = 1
 
@@ -33,15 +36,16 @@ containerCode = 4
 abbrev pub maxCode : ℕ
 maxCode = containerCode
 
--- "Numbers end at 2305843009213693951"
+-- RULES 4.4: "The last number is 2305843009213693951, which is 2^61 - 1."
 abbrev pub lastNumber : ℕ
 lastNumber = 2305843009213693951
 
--- the root's quota; "Document 002 gives the root an endless quota; here it is 256"
+-- RULES 3.6: "The root's quota is 256 for good."
 abbrev pub rootQuota : ℕ
 rootQuota = 256
 
--- "Quota 0 in a create means the default: segment 5, container 16. Otherwise 1 to 255."
+-- RULES 3.7: "The quota given to call 4 or 5 is at most 255, and 0 stands for a default: 16 for a container,
+-- 5 for a segment."
 abbrev pub segmentDefault : ℕ
 segmentDefault = 5
 
@@ -51,14 +55,16 @@ containerDefault = 16
 abbrev pub maxQuota : ℕ
 maxQuota = 255
 
--- "Mask: bit 0 thread to bit 3 container, at most 15"
+-- RULES 1.6: "A container also has a mask, a number from 0 to 15 that forbids kinds: .." (a bit for each
+-- kind)
 abbrev pub maskWidth : ℕ
 maskWidth = maxCode
 
 abbrev pub maxMask : ℕ
 maxMask = 15
 
--- "256 blocks of 64"; "block k up to 253"; "length up to 16,256"; "-256 to 256"
+-- RULES 1.8: ".. the data area, 16,384 bytes in 256 blocks of 64." 8.12: "4 if k is above 253, .."
+-- 8.14: "4 if the length is above 16,256." 8.11: "4 unless n is from -256 to 256."
 abbrev pub blockSize : ℕ
 blockSize = 64
 
@@ -71,7 +77,8 @@ maxLength = 16256
 abbrev pub maxMove : ℕ
 maxMove = 256
 
--- the bytes of a description, of a closure, and of what call 16 puts out
+-- RULES 1.2: ".. a description of 32 bytes." 1.4: ".. 32 closure bytes." 8.16: "4 if the output has not 104
+-- bytes."
 abbrev pub textSize : ℕ
 textSize = 32
 
@@ -106,11 +113,12 @@ isSegment k = eqb (kindCode k) segmentCode
 unfoldable pub isContainer : Kind → Bool
 isContainer k = eqb (kindCode k) containerCode
 
--- threads and gates have a clearance, and star may stand in their labels
+-- RULES 1.3: "A thread or a gate also has a clearance, which is a second label."
+-- 2.15: "Star may stand in the label of a thread or gate, .."
 unfoldable pub hasClearance : Kind → Bool
 hasClearance k = isThread k || isGate k
 
--- An object. Fields that its kind does not have are blank, 0, false or empty.
+-- RULES 1.2 to 1.6: an object. Fields that its kind does not have are blank, 0, false or empty.
 pub record Obj : Type 0 where
   pub kind : Kind
   pub label : Label
@@ -130,7 +138,9 @@ unfoldable pub nothing : Obj
 nothing =
     record { kind = absent; label = blank; clearance = blank; quota = 0; fixed = false; mask = 0; bytes = []; entry = 0; description = []; closure = [] }
 
--- the next call's number, the root's id, the object of each id, and which pairs (container, object) are linked
+-- RULES 4.1: "The book keeps the next number." 1.7: "A link puts an object into a container; .. One
+-- container, the root, is linked nowhere." The next number, the root's id, the object of each id, and which
+-- pairs (container, object) are linked.
 pub record World : Type 0 where
   pub next : ℕ
   pub root : ℕ
@@ -139,24 +149,27 @@ pub record World : Type 0 where
 
 -- ---- units
 
--- "A segment of n bytes uses 1 + n/64 rounded up."
+-- RULES 3.2: "A segment uses 1 unit, and 1 more for each 64 bytes that it has or begins: with n bytes, 1 + (n
+-- + 63) / 64 rounded down."
 unfoldable pub units : ℕ → ℕ
 units n = 1 + (n + 63) / 64
 
--- "the quotas of all objects linked in it; an object linked in two containers is charged in both"
+-- RULES 3.3: ".. the quotas of all that is linked in it. A segment linked in two containers counts in full in
+-- each."
 unfoldable pub charged : World → ℕ → ℕ
 charged w d = Σ (w .next) (λ o. when (w .linked d o) ((w .obj o) .quota))
 
--- "Thread and gate have quota 1 and use 1. ... A container uses 1 plus the quotas of all objects linked in it"
+-- RULES 3.1: "A thread has quota 1 and uses 1 unit, and so does a gate." 3.3: "A container uses 1 unit and
+-- the quotas of all that is linked in it." A segment's use is 3.2's.
 unfoldable pub useOf : World → ℕ → ℕ
 useOf w o =
     cond (isContainer ((w .obj o) .kind)) (1 + charged w o) (cond (isSegment ((w .obj o) .kind)) (units (length ((w .obj o) .bytes))) 1)
 
--- "Spare is quota less use."
+-- RULES 3.4: "An object's spare is its quota minus the units it uses."
 unfoldable pub spareOf : World → ℕ → ℕ
 spareOf w o = (w .obj o) .quota - useOf w o
 
--- "What an object holds is 1 for a thread, gate or container, and its use for a segment."
+-- RULES 3.5: "A segment holds the units that it uses; a thread, a gate or a container holds 1."
 unfoldable pub holdOf : World → ℕ → ℕ
 holdOf w o = cond (isSegment ((w .obj o) .kind)) (useOf w o) 1
 
@@ -179,6 +192,8 @@ edit (requota q) o =
 edit (rewrite b) o =
     record { kind = o .kind; label = o .label; clearance = o .clearance; quota = o .quota; fixed = o .fixed; mask = o .mask; bytes = b; entry = o .entry; description = o .description; closure = o .closure }
 
+-- nothing (calls 12 and 16), one object altered (1 to 3, 10, 11 and 13 to 15), one created in a container (4 to 7), one
+-- link cut with all that hangs on it (8), one segment linked (9)
 pub data Change : Type 0 where
   keep : Change
   alter : (object : ℕ) → Edit → Change
@@ -197,19 +212,21 @@ unfoldable pub under : World → ℕ → ℕ → ℕ → Bool
 under w o zero e = eqb e o
 under w o (suc k) e = any (w .next) (λ d. cond (w .linked d e) (under w o k d) false)
 
--- "and so on down": the quota falls along every link, so no way down is as long as the root's quota
+-- RULES 8.8: ".. and so on downwards": the quota falls along every link, so no way down is as long as the
+-- root's quota
 unfoldable pub below : World → ℕ → ℕ → Bool
 below w o e = any rootQuota (λ k. under w o k e)
 
--- Call 8. "Unreferencing a container unreferences everything in it": the link (e, p) stays if it is not the one cut, nor in what hangs on it.
+-- RULES 8.8: "The link of O in D goes, and all other links in D stay. .. If it is a container, all links in
+-- it go too, .." So the link (e, p) stays if it is not the one cut, nor in what hangs on it.
 unfoldable pub stays : World → ℕ → ℕ → ℕ → ℕ → Bool
 stays w d o e p = cond (w .linked e p) (not (eqb e d && eqb p o) && not (below w o e)) false
 
--- "An object with no link left is freed." The root has none and stays.
+-- RULES 8.8: "An object that is linked nowhere any more is freed, except the root."
 unfoldable pub kept : World → ℕ → ℕ → ℕ → Bool
 kept w d o p = eqb p (w .root) || any (w .next) (λ e. stays w d o e p)
 
--- "Every call takes the next number": each change moves it on
+-- RULES 4.2: "Each call uses up its number, granted or refused, and the next number is then one higher."
 unfoldable pub apply : Change → World → World
 apply keep w = record { next = suc (w .next); root = w .root; obj = w .obj; linked = w .linked }
 apply (alter o e) w = record { next = suc (w .next); root = w .root; obj = put o (edit e (w .obj o)) (w .obj); linked = w .linked }
@@ -221,7 +238,8 @@ apply (link d o) w = record { next = suc (w .next); root = w .root; obj = w .obj
 
 -- ---- the calls, with their arguments as they are lent
 
--- A label, clearance, description or closure is the bytes lent, of any length; an output is its length.
+-- RULES 8.1 to 8.16, each with what stands in brackets there. A label, clearance, description or closure is
+-- the bytes lent, of any length; an output is its length.
 pub data Call : Type 0 where
   createCategory : Call
   setLabel : (label : List ℕ) → Call
@@ -240,38 +258,51 @@ pub data Call : Type 0 where
   enterGate : (d g : ℕ) (labelR clearanceR labelV : List ℕ) (out : ℕ) → Call
   look : (d o : ℕ) (out : ℕ) → Call
 
--- ---- answer 4: "an argument is malformed or over its limit, or a lent input or output has the wrong length"
+-- ---- answer 4. RULES 6.4: "An argument is malformed or above its limit, or an input or output that is lent
+-- has not the length it should have."
 
--- "Star stands only in labels of threads and gates and in the verify label, never in a clearance."
+-- RULES 8: "Any call is refused by 4 if a label or clearance that it is given has not 65 bytes or is not well
+-- formed, .." 2.15: "Star may stand in the label of a thread or gate, in the label of call 2, and in L_R and
+-- L_V of call 15. It may stand in no clearance, and in no label of a segment or container."
 unfoldable pub goodLabel : ℕ → Bool → List ℕ → Bool
 goodLabel n starred b = eqb (length b) labelSize && wellFormed n starred (labelOf b)
 
+-- RULES 8: ".. or if a description or closure has not 32 bytes."
 unfoldable pub goodText : List ℕ → Bool
 goodText b = eqb (length b) textSize
 
--- n is the call's own number: "every category at least 1 and below the call's own number"
+-- RULES 2.16: "Arguments must be well formed below the call's own number, .." This is n.
 unfoldable pub goodArguments : ℕ → Call → Bool
 goodArguments n createCategory = true
 goodArguments n (setLabel l) = goodLabel n true l
 goodArguments n (setClearance c) = goodLabel n false c
+-- RULES 8.4: "4 also if the mask is above 15 or the quota above 255."
 goodArguments n (createContainer d l s m q) = goodLabel n false l && (goodText s && (leb m maxMask && leb q maxQuota))
+-- RULES 8.5: "4 also if the quota is above 255; .."
 goodArguments n (createSegment d l s q) = goodLabel n false l && (goodText s && leb q maxQuota)
 goodArguments n (createGate d l c e x s) = goodLabel n true l && (goodLabel n false c && (goodText x && goodText s))
 goodArguments n (createThread d l c s) = goodLabel n true l && (goodLabel n false c && goodText s)
+-- RULES 6.4: "Any number will do for an id."
 goodArguments n (unreference d o) = true
 goodArguments n (linkSegment d1 o d) = true
 goodArguments n (fixQuota d o) = true
+-- RULES 8.11: "4 unless n is from -256 to 256."
 goodArguments n (moveQuota d o (pos m)) = leb m maxMove
 goodArguments n (moveQuota d o (negsuc m)) = leb (suc m) maxMove
+-- RULES 8.12: "4 if k is above 253, or if from + count, reckoned without overflow, is above 64."
 goodArguments n (read d s k f m) = leb k maxBlock && leb (f + m) blockSize
+-- RULES 8.13: "4 as in 8.12, and unless there are exactly count bytes."
 goodArguments n (write d s k f m b) = leb k maxBlock && (leb (f + m) blockSize && eqb (length b) m)
+-- RULES 8.14: "4 if the length is above 16,256."
 goodArguments n (resize d s m) = leb m maxLength
+-- RULES 8.15: "4 also if the output has not 32 bytes."
 goodArguments n (enterGate d g lr cr lv out) = goodLabel n true lr && (goodLabel n false cr && (goodLabel n true lv && eqb out textSize))
+-- RULES 8.16: "4 if the output has not 104 bytes."
 goodArguments n (look d o out) = eqb out lookSize
 
--- ---- answer 7: "a label condition fails"
+-- ---- answer 7. RULES 6.7: "One of the label conditions of the call does not hold."
 
--- a comparison of page 01 with its labels
+-- a comparison (RULES 2.7 to 2.13) with its labels
 pub record Condition : Type 0 where
   pub rule : Rule
   pub x : Label
@@ -285,27 +316,27 @@ unfoldable pub allHold : List Condition → Bool
 allHold [] = true
 allHold (q ∷ qs) = cond (holds q) (allHold qs) false
 
--- x flows to y
+-- x flows to y: RULES 2.7
 unfoldable pub flow : Label → Label → Condition
 flow x y = record { rule = Flows; x = x; y = y; z = unread }
 
--- t may read o: o flows to high(t)
+-- RULES 2.12: "T may read O if O's label flows to high(T's label)."
 unfoldable pub reading : Label → Label → List Condition
 reading t o = record { rule = FlowsHigh; x = o; y = t; z = unread } ∷ []
 
--- t may write o: t flows to o, and o flows to high(t)
+-- RULES 2.13: "T may write O if T's label flows to O's label and T may read O."
 unfoldable pub writing : Label → Label → List Condition
 writing t o = flow t o ∷ reading t o
 
--- floor(x, y) flows to z
+-- floor(x, y) flows to z: RULES 2.10
 unfoldable pub floorFlow : Label → Label → Label → Condition
 floorFlow x y z = record { rule = FloorFlows; x = x; y = y; z = z }
 
--- x flows to join(y, z)
+-- x flows to join(y, z): RULES 2.9
 unfoldable pub flowJoin : Label → Label → Label → Condition
 flowJoin x y z = record { rule = FlowsJoin; x = x; y = y; z = z }
 
--- x flows to join(y, high(z))
+-- x flows to join(y, high(z)): RULES 2.8, 2.9
 unfoldable pub flowJoinHigh : Label → Label → Label → Condition
 flowJoinHigh x y z = record { rule = FlowsJoinHigh; x = x; y = y; z = z }
 
@@ -316,31 +347,37 @@ pub data Verdict : Type 0 where
   refuse : (number : ℕ) → Verdict
   grant : (value : ℕ) (output : List ℕ) → Change → Verdict
 
--- "The first applying number in the order of check is given": unless the test holds, refused by k
+-- RULES 6: "The first number that applies is the answer." Unless the test holds, refused by k.
 unfoldable pub must : Bool → ℕ → Verdict → Verdict
 must true k r = r
 must false k r = refuse k
 
--- "Every D named must be readable (else 5)"; 5: "a named container is absent, no container, or unreadable to the caller"
+-- RULES 6.5: "A container that the call names does not exist, is an object of another kind, or may not be
+-- read by the caller; .."
 unfoldable pub opens : World → Obj → ℕ → Bool
 opens w t d = isContainer ((w .obj d) .kind) && mayRead (t .label) ((w .obj d) .label)
 
--- 5: "or does not hold the named object"
+-- RULES 6.5: ".. or the object named with it is not linked in it." 6.15: "A pair (D, O) is an entry for the
+-- caller T if D is a container, T may read D, and O is linked in D."
 unfoldable pub entry : World → Obj → ℕ → ℕ → Bool
 entry w t d o = opens w t d && w .linked d o
 
--- "bit 0 thread to bit 3 container"
+-- RULES 1.6: ".. bit 0 forbids threads, bit 1 gates, bit 2 segments and bit 3 containers."
 unfoldable pub forbids : ℕ → Kind → Bool
 forbids m k = eqb (m / 2 ^ (kindCode k - 1) % 2) 1
 
--- enough spare in o for n units more
+-- RULES 6.13: "There is not enough to spare." Here is enough in o, for n units more.
 unfoldable pub fits : World → ℕ → ℕ → Bool
 fits w o n = leb n (spareOf w o)
 
+-- RULES 3.7: ".. 0 stands for a default .."
 unfoldable pub orDefault : ℕ → ℕ → ℕ
 orDefault q d = cond (eqb q 0) d q
 
--- Calls 4 to 7: "T may write D; T flows to the label, the label to the new clearance if any, that to T's clearance."
+-- RULES 8.4, for calls 4 to 7: "5 unless D is a container that T may read. 7 unless T may write D, T flows to
+-- the new label, that flows to the new clearance if there is one, and the last of these flows to T's
+-- clearance. 8 if D's mask forbids the kind. 13 if the new quota is above D's spare. The object is made with
+-- the call's own number as its id, and linked in D. Value: its id."
 unfoldable pub make : World → Obj → ℕ → Obj → List Condition → Verdict
 make w t d x more =
     must (opens w t d) 5
@@ -353,39 +390,45 @@ unfoldable pub containerOf : Label → List ℕ → ℕ → ℕ → Obj
 containerOf l s m q =
     record { kind = container; label = l; clearance = blank; quota = q; fixed = false; mask = m; bytes = []; entry = 0; description = s; closure = [] }
 
+-- RULES 8.5: "The segment has no bytes yet, and its quota is not fixed."
 unfoldable pub segmentOf : Label → List ℕ → ℕ → Obj
 segmentOf l s q =
     record { kind = segment; label = l; clearance = blank; quota = q; fixed = false; mask = 0; bytes = []; entry = 0; description = s; closure = [] }
 
+-- RULES 8.6: ".. with quota 1."
 unfoldable pub gateOf : Label → Label → ℕ → List ℕ → List ℕ → Obj
 gateOf l c e x s =
     record { kind = gate; label = l; clearance = c; quota = 1; fixed = false; mask = 0; bytes = []; entry = e; description = s; closure = x }
 
+-- RULES 8.7: ".. with quota 1."
 unfoldable pub threadOf : Label → Label → List ℕ → Obj
 threadOf l c s =
     record { kind = thread; label = l; clearance = c; quota = 1; fixed = false; mask = 0; bytes = []; entry = 0; description = s; closure = [] }
 
--- Call 1: "clearance 3 there (no pair if its clearance default is 3)"
+-- RULES 8.1: "T's clearance gets level 3 there, by a pair unless its default is level 3."
 unfoldable pub clearedAt : ℕ → Label → Label
 clearedAt n c = cond (eqb (c .default) level3) c (withPair n level3 c)
 
--- Call 16: "description 32; kind; 1 if the label is shown; default code; five zeros; eight words, little-endian. A thread's label is
--- shown only if T may read it, else zeros there."
+-- RULES 8.16: "Output: the description in 32 bytes; the kind's code; 1, for a label that is shown; the
+-- label's default code; five zeros; the eight words in eight bytes each, the lowest first. If O is a thread
+-- that T may not read, all bytes after the kind's code are 0."
 unfoldable pub lookBytes : Label → Obj → List ℕ
 lookBytes t x =
     x .description
     ++ (kindCode (x .kind)
     ∷ cond (isThread (x .kind) && not (mayRead t (x .label))) (replicate (7 + wordCount * 8) 0) (1 ∷ (x .label) .default ∷ (replicate 5 0 ++ wordsBytes ((x .label) .words))))
 
--- the bytes with b in place of those from `from` on
+-- RULES 8.13: "The bytes take the place of those in S from 64k + from on." Here b takes it from `from` on.
 unfoldable pub overwrite : ℕ → List ℕ → List ℕ → List ℕ
 overwrite from b bytes = take from bytes ++ (b ++ drop (from + length b) bytes)
 
--- "New bytes are zero"
+-- RULES 8.14: "S gets that length. Bytes that it gains are zero, .."
 unfoldable pub resized : ℕ → List ℕ → List ℕ
 resized n bytes = take n bytes ++ replicate (n - length bytes) 0
 
--- Call 11, into (D, O) or back: both must pass 5 to 9 alike, "if n < 0, O flows to high(T)"
+-- RULES 8.11: "5 unless (D, O) is an entry. 6 unless O is a segment or a container. 7 unless T may write D, T
+-- flows to O, O flows to T's clearance and, .. 9 if O's quota is fixed." `more` is the condition for n below
+-- 0, `rest` the test 13.
 unfoldable pub move : World → Obj → ℕ → ℕ → List Condition → Verdict → Verdict
 move w t d o more rest =
     must (entry w t d o) 5
@@ -393,28 +436,31 @@ move w t d o more rest =
     (must (allHold (writing (t .label) ((w .obj d) .label) ++ (flow (t .label) ((w .obj o) .label) ∷ flow ((w .obj o) .label) (t .clearance) ∷ more))) 7
     (must (not ((w .obj o) .fixed)) 9 rest)))
 
--- Calls 12, 13 and 14 on (D, S): the entry, the kind, and the label condition
+-- RULES 8.12 to 8.14: "5 unless (D, S) is an entry. 6 unless S is a segment." Then 7, by the call's own
+-- conditions.
 unfoldable pub access : World → Obj → ℕ → ℕ → List Condition → Verdict → Verdict
 access w t d s conditions rest =
     must (entry w t d s) 5
     (must (isSegment ((w .obj s) .kind)) 6
     (must (allHold conditions) 7 rest))
 
--- The tests from 5 on, and what is granted; t is the caller's object, c its id.
+-- RULES 8.1 to 8.16: the tests from 5 on, and what is granted; t is the caller's object, c its id.
 unfoldable pub judge : World → Obj → ℕ → Call → Verdict
--- "T gets star at the new category, and clearance 3 there"; 12: "a label would need a ninth pair"
+-- RULES 8.1: "12 if T's label has eight pairs, or if T's clearance has eight and its default is not level 3.
+-- T's label gets star at the new category. T's clearance gets level 3 there, .. Value: the category, which is
+-- the call's own number."
 judge w t c createCategory =
     must (hasRoom (t .label) && (eqb ((t .clearance) .default) level3 || hasRoom (t .clearance))) 12
     (grant (w .next) [] (alter c (relabel (withPair (w .next) star (t .label)) (clearedAt (w .next) (t .clearance)))))
--- "T flows to L, L to the clearance"
+-- RULES 8.2: "7 unless T flows to L and L flows to T's clearance. T's label becomes L."
 judge w t c (setLabel l) =
     must (allHold (flow (t .label) (labelOf l) ∷ flow (labelOf l) (t .clearance) ∷ [])) 7
     (grant 0 [] (alter c (relabel (labelOf l) (t .clearance))))
--- "T flows to C, C to join(clearance, high(T))"
+-- RULES 8.3: "7 unless T flows to C and C flows to join(T's clearance, high(T)). T's clearance becomes C."
 judge w t c (setClearance x) =
     must (allHold (flow (t .label) (labelOf x) ∷ flowJoinHigh (labelOf x) (t .clearance) (t .label) ∷ [])) 7
     (grant 0 [] (alter c (relabel (t .label) (labelOf x))))
--- "a new container also gets D's bits"
+-- RULES 8.4: "The new mask has the bits given and those of D's mask." The rest of 8.4 to 8.7 is `make`.
 judge w t c (createContainer d l s m q) =
     make w t d (containerOf (labelOf l) s (bitOr m ((w .obj d) .mask)) (orDefault q containerDefault)) (flow (labelOf l) (t .clearance) ∷ [])
 judge w t c (createSegment d l s q) = make w t d (segmentOf (labelOf l) s (orDefault q segmentDefault)) (flow (labelOf l) (t .clearance) ∷ [])
@@ -422,12 +468,14 @@ judge w t c (createGate d l k e x s) =
     make w t d (gateOf (labelOf l) (labelOf k) e x s) (flow (labelOf l) (labelOf k) ∷ flow (labelOf k) (t .clearance) ∷ [])
 judge w t c (createThread d l k s) =
     make w t d (threadOf (labelOf l) (labelOf k) s) (flow (labelOf l) (labelOf k) ∷ flow (labelOf k) (t .clearance) ∷ [])
--- "Unreference (D, O): T may write D."
+-- RULES 8.8: "5 unless (D, O) is an entry. 7 unless T may write D. The link of O in D goes, .."
 judge w t c (unreference d o) =
     must (entry w t d o) 5
     (must (allHold (writing (t .label) ((w .obj d) .label))) 7
     (grant 0 [] (cut d o)))
--- "Link segment (D1, O) into D: T may write D; O flows to T's clearance."
+-- RULES 8.9: "5 unless (D1, O) is an entry, D is a container and T may read D. 6 unless O is a segment. 7
+-- unless T may write D and O flows to T's clearance. 9 unless O's quota is fixed. 10 if O is linked in D
+-- already. 13 if O's quota is above D's spare. O is then linked in D as well."
 judge w t c (linkSegment d1 o d) =
     must (entry w t d1 o && opens w t d) 5
     (must (isSegment ((w .obj o) .kind)) 6
@@ -436,13 +484,15 @@ judge w t c (linkSegment d1 o d) =
     (must (not (w .linked d o)) 10
     (must (fits w d ((w .obj o) .quota)) 13
     (grant 0 [] (link d o)))))))
--- "Fix quota of segment (D, O): T may write D, T flows to O. Already fixed: granted."
+-- RULES 8.10: "5 unless (D, O) is an entry. 6 unless O is a segment. 7 unless T may write D and T flows to O.
+-- O's quota is fixed for good; if it was fixed before, nothing changes."
 judge w t c (fixQuota d o) =
     must (entry w t d o) 5
     (must (isSegment ((w .obj o) .kind)) 6
     (must (allHold (writing (t .label) ((w .obj d) .label) ++ (flow (t .label) ((w .obj o) .label) ∷ []))) 7
     (grant 0 [] (alter o fix))))
--- "n > 0 needs spare in D, n < 0 in O"
+-- RULES 8.11: "13 if n is above D's spare, or if n is below 0 and -n is above O's spare. n is added to O's
+-- quota." Test 7, 8.11: ".. for n below 0, O flows to high(T)."
 judge w t c (moveQuota d o (pos n)) =
     move w t d o []
     (must (fits w d n) 13
@@ -451,21 +501,27 @@ judge w t c (moveQuota d o (negsuc n)) =
     move w t d o (reading (t .label) ((w .obj o) .label))
     (must (fits w o (suc n)) 13
     (grant 0 [] (alter o (requota ((w .obj o) .quota - suc n)))))
--- "Answer 11 means 64k + from + count is above the length, for count 0 too."
+-- RULES 8.12: "7 unless T may read S. 11 if 64k + from + count is above S's length, even if count is 0. The
+-- output is the part of the data area that has the bytes of S from 64k + from on, count of them; .."
 judge w t c (read d s k f n) =
     access w t d s (reading (t .label) ((w .obj s) .label))
     (must (leb (blockSize * k + f + n) (length ((w .obj s) .bytes))) 11
     (grant 0 (take n (drop (blockSize * k + f) ((w .obj s) .bytes))) keep))
+-- RULES 8.13: "7 unless T may write S. 11 as in 8.12. The bytes take the place of those in S from 64k + from
+-- on."
 judge w t c (write d s k f n b) =
     access w t d s (writing (t .label) ((w .obj s) .label))
     (must (leb (blockSize * k + f + n) (length ((w .obj s) .bytes))) 11
     (grant 0 [] (alter s (rewrite (overwrite (blockSize * k + f) b ((w .obj s) .bytes))))))
--- a segment's own spare: what the new length uses stays within its quota
+-- RULES 8.14: "7 unless T may write S. 13 if a segment of that length uses more units than S's quota has. S
+-- gets that length. Bytes that it gains are zero, .."
 judge w t c (resize d s n) =
     access w t d s (writing (t .label) ((w .obj s) .label))
     (must (leb (units n) ((w .obj s) .quota)) 13
     (grant 0 [] (alter s (rewrite (resized n ((w .obj s) .bytes))))))
--- "T flows to G's clearance and to L_V; floor(T, G) to L_R, L_R to C_R, C_R to join(both clearances). T takes L_R and C_R."
+-- RULES 8.15: "5 unless (D, G) is an entry. 6 unless G is a gate. 7 unless T flows to G's clearance, T flows
+-- to L_V, floor(T, G) flows to L_R, L_R flows to C_R, and C_R flows to join(T's clearance, G's clearance).
+-- T's label becomes L_R, and its clearance C_R. Value: G's entry number. Output: G's closure bytes."
 judge w t c (enterGate d g lr cr lv out) =
     must (entry w t d g) 5
     (must (isGate ((w .obj g) .kind)) 6
@@ -475,38 +531,43 @@ judge w t c (enterGate d g lr cr lv out) =
     ∷ flow (labelOf lr) (labelOf cr) ∷ flowJoin (labelOf cr) (t .clearance) ((w .obj g) .clearance) ∷ []))
     7
     (grant ((w .obj g) .entry) ((w .obj g) .closure) (alter c (relabel (labelOf lr) (labelOf cr))))))
--- "The pair (D, D) is an entry only for call 16."
+-- RULES 8.16: "5 unless D is a container that T may read, and O is D itself or is linked in D; no other call
+-- takes (D, D) for an entry."
 judge w t c (look d o out) =
     must (opens w t d && (eqb o d || w .linked d o)) 5
     (grant 0 (lookBytes (t .label) (w .obj o)) keep)
 
--- the tests from 3 on
+-- RULES 6.3: "The caller's id is not that of a live thread." Then 6.4, and the tests from 5 on.
 unfoldable pub tests : World → ℕ → Call → Verdict
 tests w c x =
     must (isThread ((w .obj c) .kind)) 3
     (must (goodArguments (w .next) x) 4
     (judge w (w .obj c) c x))
 
--- the whole order of check; answer 1 is about the areas, which a world does not have
+-- RULES 6.2: "The next number is above the last (4.4)." So this is the whole order of check, but for 6.1,
+-- which is about the areas: a world has none.
 unfoldable pub call : World → ℕ → Call → Verdict
 call w c x = must (leb (w .next) lastNumber) 2 (tests w c x)
 
 -- ---- what a call answers and leaves
 
--- "Granted is 0."
+-- RULES 6: "If none applies the call is granted, and the answer is 0."
 unfoldable pub answerOf : Verdict → ℕ
 answerOf (refuse k) = k
 answerOf (grant v b h) = 0
 
+-- RULES 6.14: "A refused call has value 0."
 unfoldable pub valueOf : Verdict → ℕ
 valueOf (refuse k) = 0
 valueOf (grant v b h) = v
 
+-- RULES 6.14: "It leaves both areas and every output as they were, .."
 unfoldable pub outputOf : Verdict → List ℕ
 outputOf (refuse k) = []
 outputOf (grant v b h) = b
 
--- "Every call takes the next number, granted or not, except after answers 1 and 2."
+-- RULES 6.14: "It leaves both areas and every output as they were, unused bytes too, but for the next number
+-- (4.2)." 4.2: "Only answers 1 and 2 use up none."
 unfoldable pub leaves : Verdict → World → World
 leaves (refuse k) w = cond (leb k 2) w (apply keep w)
 leaves (grant v b h) w = apply h w
@@ -516,11 +577,12 @@ after w c x = leaves (call w c x) w
 
 -- ---- Start
 
--- "a first number f, from 1 to 2305843009213693949"
+-- RULES 7.1: "Start takes a first number f, at least 1 and at most 2305843009213693949."
 unfoldable pub startable : ℕ → Bool
 startable f = leb 1 f && leb f (lastNumber - 2)
 
--- "the root container f (label {1}, quota 256, mask 0) and in it thread f+1 (label {1}, clearance {2}), descriptions all zero"
+-- RULES 7.3: "Container f becomes the root, with label {1}, quota 256 and mask 0; thread f + 1 is linked in
+-- it, with label {1} and clearance {2}; both descriptions are zeros." 7.4: "The next number is f + 2."
 unfoldable pub start : ℕ → World
 start f =
     record {

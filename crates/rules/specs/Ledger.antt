@@ -1,5 +1,6 @@
--- Page 01, "Spare reckoned from history": a ledger of the granted calls that make, link or move units, and the spare of a container by that ledger and the
--- links that are there now.
+-- RULES 3.8: "The spare of a container D can be reckoned from the calls so far." A ledger of the granted
+-- calls that make, link or move units, and the spare of a container by that ledger and the links that are
+-- there now.
 use Prim.Native.Nat.{ℕ, suc, _+_, _-_, _≤_}
 use mathlib.Core.Bool.{Bool, true, false, cond, _&&_}
 use mathlib.Core.Path.{_≡_}
@@ -19,7 +20,8 @@ pub data Line : Type 0 where
   movedIn : (d o n : ℕ) → Line
   movedBack : (d o n : ℕ) → Line
 
--- what a call with the number n writes if it is granted; "Thread and gate have quota 1"
+-- what a call with the number n writes if it is granted. RULES 3.1: "A thread has quota 1 .., and so does a
+-- gate."
 unfoldable pub lineIf : ℕ → Call → Line
 lineIf n createCategory = nothingWritten
 lineIf n (setLabel l) = nothingWritten
@@ -39,11 +41,12 @@ lineIf n (resize d s m) = nothingWritten
 lineIf n (enterGate d g lr cr lv out) = nothingWritten
 lineIf n (look d o out) = nothingWritten
 
--- "Granted is 0": any other answer writes nothing
+-- RULES 6: "If none applies the call is granted, and the answer is 0." Any other answer writes nothing.
 unfoldable pub lineOf : World → ℕ → Call → Line
 lineOf w c x = cond (eqb (answerOf (call w c x)) 0) (lineIf (w .next) x) nothingWritten
 
--- ---- "units granted at creation (root 256), plus units moved in, less units moved back"
+-- ---- RULES 3.8: "Take the units it was created with (the root: 256), add those moved into it, and subtract
+-- those moved back out of it, .."
 
 -- what a line makes of the units u granted to p before it
 unfoldable pub grantedBy : Line → (p u : ℕ) → ℕ
@@ -57,8 +60,8 @@ unfoldable pub granted : History → ℕ → ℕ
 granted (started f) p = cond (eqb p f) rootQuota (cond (eqb p (f + 1)) 1 0)
 granted (next h c x) p = grantedBy (lineOf (worldAfter h) c x) p (granted h p)
 
--- ---- "the quota it had when its present link here was made and the units moved from here into it since then, and add the units taken back from it
--- since then"
+-- ---- RULES 3.8: ".. the quota it had when that link was made and the units moved from D into it since, and
+-- add the units moved back from it since."
 
 -- what a line makes of the charge k of p in e before it; u is what had been granted to p, the quota it had then
 unfoldable pub chargeBy : Line → (e p u k : ℕ) → ℕ
@@ -72,7 +75,7 @@ unfoldable pub charge : History → ℕ → ℕ → ℕ
 charge (started f) e p = cond (eqb e f && eqb p (f + 1)) 1 0
 charge (next h c x) e p = chargeBy (lineOf (worldAfter h) c x) e p (granted h p) (charge h e p)
 
--- ---- "less 1. For each object now linked here, take off ..": the spare of d, reckoned
+-- ---- RULES 3.8: ".. and 1. Then, for each object linked in D now, subtract ..": the spare of d, reckoned
 
 unfoldable pub reckoned : History → ℕ → ℕ
 reckoned h d = granted h d - 1 - Σ (worldAfter h .next) (λ o. when (worldAfter h .linked d o) (charge h d o))
@@ -95,7 +98,8 @@ takesUnits w (tied d o) = true
 takesUnits w (movedIn d o n) = true
 takesUnits w (movedBack d o n) = isContainer ((w .obj o) .kind)
 
--- the object whose spare is asked: "n > 0 needs spare in D, n < 0 in O"
+-- the object whose spare is asked. RULES 8.11: "13 if n is above D's spare, or if n is below 0 and -n is
+-- above O's spare."
 unfoldable pub askedOf : Line → ℕ
 askedOf nothingWritten = 0
 askedOf (made d o q) = d

@@ -1,5 +1,6 @@
--- The rules of page 01, and what follows from them. A reader has to believe Kernel and Sound, and for the theorems over histories the
--- definitions in Histories, Ledger, Written, Issued, Trees, Answers and Named; Laws and Theorems are proved.
+-- The rules of docs/RULES.md, and what follows from them. A reader has to believe Kernel and Sound, and for
+-- the theorems over histories the definitions in Histories, Ledger, Written, Issued, Trees, Answers and
+-- Named; Laws and Theorems are proved.
 pub mod Kernel
 pub mod Sound
 pub mod Fair

@@ -1,4 +1,5 @@
--- The containers that a call names: "Every D named must be readable (else 5)."
+-- The containers that a call names. RULES 6.5: "A container that the call names does not exist, is an object
+-- of another kind, or may not be read by the caller; .."
 use Prim.Native.Nat.{ℕ}
 use mathlib.Core.Bool.{Bool, true, false, not, _&&_}
 use mathlib.Core.List.{List, [], _∷_}

@@ -27,16 +27,17 @@ StillReached w d o p = Way (without d o (w .linked)) (w .root) p
 abbrev pub inTree : World → ℕ → ℕ → Bool
 inTree w d o = below w d o
 
--- Call 8 of page 01: u is what is left of w when the link of o in d goes.
+-- Call 8, RULES 8.8: u is what is left of w when the link of o in d goes.
 pub record Unlinked (w : World) (d o : ℕ) (u : World) : Type 0 where
   pub next : u .next ≡ suc (w .next)
   pub root : u .root ≡ w .root
-  -- exactly those objects are live that were live and that the root still reaches
+  -- RULES 8.8: "An object that is linked nowhere any more is freed, .. and so on downwards." So exactly those
+  -- objects are live that were live and that the root still reaches
   pub live : (p : ℕ) → (isLive ((u .obj p) .kind) ≡ true) ↔ ((isLive ((w .obj p) .kind) ≡ true) × StillReached w d o p)
   -- each of them is as it was, and nothing is left of the others
   pub unchanged : (p : ℕ) → StillReached w d o p → u .obj p ≡ w .obj p
   pub freed : (p : ℕ) → (StillReached w d o p → ⊥) → u .obj p ≡ nothing
   -- the links left are the old ones without that one, in the containers that the root still reaches
   pub links : (e p : ℕ) → (u .linked e p ≡ true) ↔ ((without d o (w .linked) e p ≡ true) × StillReached w d o e)
-  -- "The links left in D are the old list without that one."
+  -- RULES 8.8: "The link of O in D goes, and all other links in D stay."
   pub links-here : (p : ℕ) → u .linked d p ≡ (w .linked d p && not (eqb p o))

@@ -1,5 +1,6 @@
--- What the calls so far have left at each place of each segment, reckoned from the calls alone. Page 01: a write puts its bytes from 64k + from on; in a
--- resize "new bytes are zero .. freed bytes are set to zero"; a new segment has length 0.
+-- What the calls so far have left at each place of each segment, reckoned from the calls alone. RULES 8.13:
+-- "The bytes take the place of those in S from 64k + from on." 8.14: "Bytes that it gains are zero, .. bytes
+-- that it loses are set to zero in the area." 8.5: "The segment has no bytes yet, .."
 use Prim.Native.Nat.{ℕ, _+_, _*_, _-_}
 use mathlib.Core.Bool.{Bool, false, cond, _&&_}
 use lib.ListN.{length, getD}
@@ -26,7 +27,8 @@ leftBy (read d t k from count) s i was = was
 leftBy (enterGate d g lr cr lv out) s i was = was
 leftBy (look d o out) s i was = was
 
--- the byte last written at place i of the segment s, 0 where none was or where a resize has cut it off since; "Granted is 0": any other answer writes nothing
+-- the byte last written at place i of the segment s, 0 where none was or where a resize has cut it off since.
+-- Any answer but 0 writes nothing (RULES 6.14).
 unfoldable pub lastWritten : History → ℕ → ℕ → ℕ
 lastWritten (started f) s i = 0
 lastWritten (next h c x) s i = cond (eqb (answerOf (call (worldAfter h) c x)) 0) (leftBy x s i (lastWritten h s i)) (lastWritten h s i)

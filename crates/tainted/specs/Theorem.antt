@@ -1,4 +1,4 @@
--- W5 is proved. Its statement stands in Tainted.
+-- W5 (docs/RULES.md, section 12) is proved. Its statement stands in Tainted.
 use Prim.Native.Nat.{ℕ, _<_, _≤_}
 use native.Mathlib.Decide.{ℕ-discrete}
 use native.Mathlib.Omega.{arith}
@@ -193,6 +193,6 @@ module _ (v : ℕ) where
 pub tainted-work-does-not-show : the.TaintedWorkDoesNotShow
 tainted-work-does-not-show v w so u a b h = let k = along v w so (terms-at-start v w u) h in (λ c x h. same-call v a b k c h x, same-untainted v a b k)
 
--- Page 01's start is such a start.
+-- What Start leaves is such a start.
 pub starts-untainted : the.StartsUntainted
 starts-untainted = start-untainted

@@ -59,7 +59,7 @@ pub fn plain() -> Label {
     Label::plain(LEVEL_1)
 }
 
-/// "Label {1}, clearance {2}".
+/// Label {1}, clearance {2}, as RULES 7.3 gives them to the first thread.
 pub fn plain_clearance() -> Label {
     Label::plain(LEVEL_2)
 }

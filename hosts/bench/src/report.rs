@@ -3,7 +3,7 @@
 
 use crate::clock::Times;
 
-/// "Ratio at most 1.2 for every call at every size."
+/// The aim (docs/PERFORMANCE.md): a ratio of at most 1.2 for every call at every size.
 const AIM: f64 = 1.2;
 
 /// A call's times on one book.

@@ -125,7 +125,7 @@ fn blank(id: u64) -> Row<'static> {
     }
 }
 
-/// "Quota 0 in a create means the default."
+/// RULES 3.7: ".. 0 stands for a default: .."
 fn quota_or(quota: u64, default: u16) -> u16 {
     if quota == 0 {
         default
@@ -134,7 +134,7 @@ fn quota_or(quota: u64, default: u16) -> u16 {
     }
 }
 
-/// "A description is 32 bytes", and so is a closure.
+/// RULES 1.2: ".. a description of 32 bytes." 1.4: ".. 32 closure bytes."
 fn lent_text(bytes: &[u8]) -> Result<&[u8], u64> {
     need(bytes.len() == TEXT_LEN, MALFORMED)?;
     Ok(bytes)
@@ -156,7 +156,8 @@ impl Turn<'_> {
         Ok(self.number)
     }
 
-    /// "T may write D; T flows to the label, the label to the new clearance if any, that to T's clearance."
+    /// RULES 8.4: "7 unless T may write D, T flows to the new label, that flows to the new clearance if there
+    /// is one, and the last of these flows to T's clearance."
     fn may_create(&self, d: usize, new: &Row) -> bool {
         let above = match new.kind {
             THREAD | GATE => flows(new.label, new.clearance) && flows(new.clearance, self.clearance()),
@@ -166,7 +167,7 @@ impl Turn<'_> {
     }
 }
 
-/// "A new one is the lowest free one."
+/// RULES 1.10: ".. the free one with the lowest number is taken, .."
 pub fn add_link(b: &mut Book, container: usize, object: usize) {
     let free = (0..LINKS).find(|i| link(b, *i).is_none()).expect("units bound the links");
     set_link(b, free, container, object);

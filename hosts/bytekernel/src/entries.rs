@@ -14,13 +14,13 @@ pub fn link_of(b: &Book, container: usize, object: usize) -> Option<usize> {
     (0..LINKS).find(|i| link(b, *i) == Some((container, object)))
 }
 
-/// "A container uses 1 plus the quotas of all objects linked in it."
+/// RULES 3.3: "A container uses 1 unit and the quotas of all that is linked in it."
 pub fn container_use(b: &Book, container: usize) -> u16 {
     let inside = (0..LINKS).filter_map(|i| link(b, i)).filter(|(from, _)| *from == container);
     1 + inside.map(|(_, object)| quota(b, object)).sum::<u16>()
 }
 
-/// "Spare is quota less use."
+/// RULES 3.4: "An object's spare is its quota minus the units it uses."
 pub fn spare(b: &Book, row: usize) -> u16 {
     let used = match kind(b, row) {
         SEGMENT => 1 + blocks_for(len(b, row)) as u16,
@@ -38,7 +38,8 @@ pub struct Entry {
 }
 
 impl Turn<'_> {
-    /// "Every D named must be readable (else 5)."
+    /// RULES 6.5: "A container that the call names does not exist, is an object of another kind, or may not
+    /// be read by the caller; .."
     pub fn container(&self, d: u64) -> Result<usize, u64> {
         let row = row_of(self.b, d).ok_or(NO_ENTRY)?;
         let readable = kind(self.b, row) == CONTAINER && may_read(self.label(), label(self.b, row));

@@ -56,7 +56,8 @@ impl Turn<'_> {
         Ok(entry(self.b, gate))
     }
 
-    /// "T flows to G's clearance and to L_V; floor(T, G) to L_R, L_R to C_R, C_R to join(both clearances)."
+    /// RULES 8.15: "7 unless T flows to G's clearance, T flows to L_V, floor(T, G) flows to L_R, L_R flows to
+    /// C_R, and C_R flows to join(T's clearance, G's clearance)."
     fn may_enter(&self, gate: usize, l_r: Label, c_r: Label, l_v: Label) -> bool {
         flows(self.label(), clearance(self.b, gate))
             && flows(self.label(), l_v)
@@ -65,7 +66,8 @@ impl Turn<'_> {
             && flows_to_join(c_r, self.clearance(), clearance(self.b, gate))
     }
 
-    /// "The pair (D, D) is an entry only for call 16."
+    /// RULES 8.16: "5 unless D is a container that T may read, and O is D itself or is linked in D; no other
+    /// call takes (D, D) for an entry."
     fn look(self, d: u64, o: u64, out: &mut [u8]) -> Judged {
         need(out.len() == LOOK_LEN, MALFORMED)?;
         let row = if d == o { self.container(d)? } else { self.entry(d, o)?.o };
@@ -73,7 +75,7 @@ impl Turn<'_> {
         out.fill(0);
         out[..TEXT_LEN].copy_from_slice(description(self.b, row));
         out[32] = kind(self.b, row);
-        // "A thread's label is shown only if T may read it, else zeros there."
+        // RULES 8.16: "If O is a thread that T may not read, all bytes after the kind's code are 0."
         if kind(self.b, row) != THREAD || may_read(self.label(), seen) {
             out[33] = 1;
             out[34] = seen.default;

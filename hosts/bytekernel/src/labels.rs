@@ -11,7 +11,7 @@ pub const WORDS: usize = 8;
 const LABEL_LEN: usize = 65;
 static NO_WORDS: [u8; 8 * WORDS] = [0; 8 * WORDS];
 
-/// Above every category: "2^61 - 1" is the largest.
+/// Above every category: 2^61 - 1 is the last number (RULES 4.4).
 const NO_CATEGORY: u64 = u64::MAX;
 
 #[derive(Clone, Copy)]
@@ -20,7 +20,7 @@ pub struct Label<'a> {
     words: &'a [u8; 8 * WORDS],
 }
 
-/// "Category times 8 plus code."
+/// RULES 2.3: ".. 8 times its category plus its code: .."
 pub fn word(category: u64, code: u8) -> u64 {
     category << 3 | u64::from(code)
 }
@@ -135,7 +135,7 @@ fn everywhere3(x: Label, y: Label, z: Label, test: impl Fn(u8, u8, u8) -> bool) 
     holds
 }
 
-/// "High(X): star read as 5."
+/// RULES 2.8: "high(X) is X with high star in place of star."
 fn high(code: u8) -> u8 {
     if code == STAR {
         HIGH_STAR
@@ -144,7 +144,8 @@ fn high(code: u8) -> u8 {
     }
 }
 
-/// "Star where either has star, else the larger."
+/// RULES 2.10: "floor(X, Y) has star at each category where X has star or Y has star, and the greater code at
+/// all others."
 fn floor(x: u8, y: u8) -> u8 {
     if x == STAR || y == STAR {
         STAR
@@ -153,17 +154,17 @@ fn floor(x: u8, y: u8) -> u8 {
     }
 }
 
-/// "X flows to Y: X(c) ≤ Y(c) for every category."
+/// RULES 2.7: "X flows to Y if X(c) ≤ Y(c) at each category c that there is, named by a pair or not."
 pub fn flows(x: Label, y: Label) -> bool {
     everywhere(x, y, |x, y| x <= y)
 }
 
-/// "T may read O: O flows to high(T)."
+/// RULES 2.12: "T may read O if O's label flows to high(T's label)."
 pub fn may_read(t: Label, o: Label) -> bool {
     everywhere(o, t, |o, t| o <= high(t))
 }
 
-/// "T may write O: T flows to O, and O flows to high(T)."
+/// RULES 2.13: "T may write O if T's label flows to O's label and T may read O."
 pub fn may_write(t: Label, o: Label) -> bool {
     everywhere(t, o, |t, o| t <= o && o <= high(t))
 }

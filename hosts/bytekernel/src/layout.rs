@@ -9,7 +9,7 @@ pub const BLOCK_LEN: usize = 64;
 pub const TEXT_LEN: usize = 32;
 const WORDS_LEN: usize = 64;
 
-/// "Numbers end at 2^61 - 1": the first number past the end.
+/// The first number past the end: 2^61 - 1 is the last (RULES 4.4).
 pub const PAST_THE_END: u64 = 1 << 61;
 
 pub const FREE: u8 = 0;
@@ -167,7 +167,7 @@ pub struct Row<'a> {
     pub closure: &'a [u8],
 }
 
-/// "A create writes every field of its row, zero where the kind has none."
+/// docs/BOOK.md: "A create writes every number of its row, and 0 where the kind has none."
 pub fn write_row(b: &mut Book, row: usize, new: &Row) {
     set64(b, ID + 8 * row, new.id);
     b[KIND + row] = new.kind;
@@ -220,7 +220,7 @@ pub fn free_block(b: &mut Book, block: usize) {
     set16(b, OWNER + 2 * block, 0);
 }
 
-/// "n/64 rounded up."
+/// RULES 5.10: "A segment has one block for each 64 bytes that it has or begins, .."
 pub fn blocks_for(len: usize) -> usize {
     (len + BLOCK_LEN - 1) / BLOCK_LEN
 }

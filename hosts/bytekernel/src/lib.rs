@@ -1,6 +1,8 @@
-//! A second kernel, for the benchmark: Start and the sixteen calls of page 01 straight on the bytes of the book
-//! (docs/BOOK.md) and the data area, with the soundness of the whole book on every call. Its functions have the shape
-//! of the C interface.
+//! A second kernel, for the benchmark: Start and the sixteen calls of page 01 (the user's rules, which
+//! docs/RULES.md restates) straight on the bytes of the book (docs/BOOK.md) and the data area, with the
+//! soundness of the whole book on every call. Its functions have the shape of the C interface. It was written
+//! from page 01, the readings of it in docs/DECISIONS.md and docs/BOOK.md, before docs/RULES.md was there;
+//! comments quote docs/RULES.md by number.
 
 mod creates;
 mod entries;
@@ -53,7 +55,7 @@ pub fn book_len() -> u64 {
     BOOK_LEN as u64
 }
 
-/// "Every call takes the next number, granted or not, except after answers 1 and 2."
+/// RULES 4.2: "Each call uses up its number, granted or refused, .. Only answers 1 and 2 use up none."
 fn take(
     book: &mut [u8],
     area: &mut [u8],

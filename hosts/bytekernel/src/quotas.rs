@@ -92,7 +92,7 @@ impl Turn<'_> {
     }
 }
 
-/// "An object with no link left is freed."
+/// RULES 8.8: "An object that is linked nowhere any more is freed, except the root."
 fn cut(b: &mut Book, a: &mut Area, gone: usize, object: usize) {
     free_link(b, gone);
     if (0..LINKS).filter_map(|i| link(b, i)).any(|(_, to)| to == object) {
@@ -106,7 +106,7 @@ fn cut(b: &mut Book, a: &mut Area, gone: usize, object: usize) {
     free_row(b, object);
 }
 
-/// "Unreferencing a container unreferences everything in it, and so on down."
+/// RULES 8.8: "If it is a container, all links in it go too, and so on downwards."
 fn cut_all(b: &mut Book, a: &mut Area, container: usize) {
     for i in 0..LINKS {
         if let Some((from, object)) = link(b, i) {
@@ -117,7 +117,7 @@ fn cut_all(b: &mut Book, a: &mut Area, container: usize) {
     }
 }
 
-/// "A freed segment's blocks are set to zero."
+/// RULES 8.8: "The blocks of a freed segment are set to zero."
 fn clear_blocks(b: &mut Book, a: &mut Area, segment: usize) {
     for i in 0..BLOCKS {
         if block(b, i).map_or(false, |(owner, _)| owner == segment) {

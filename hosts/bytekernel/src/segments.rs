@@ -63,7 +63,7 @@ pub fn resize(
     take(book, area, caller, value, |turn| turn.resize(d, s, length))
 }
 
-/// "Block k up to 253, from + count ≤ 64", and the sum must not wrap.
+/// RULES 8.12: "4 if k is above 253, or if from + count, reckoned without overflow, is above 64."
 fn part_well_formed(k: u64, from: u64, count: u64) -> bool {
     k <= LAST_INDEX && from <= BLOCK_LEN as u64 && count <= BLOCK_LEN as u64 - from
 }
@@ -123,7 +123,7 @@ impl Turn<'_> {
     }
 }
 
-/// "Freed bytes are cleared."
+/// RULES 8.14: ".. bytes that it loses are set to zero in the area."
 fn drop_blocks_from(b: &mut Book, a: &mut Area, segment: usize, kept: usize) {
     for i in 0..BLOCKS {
         if block(b, i).map_or(false, |(owner, index)| owner == segment && index >= kept) {
@@ -144,7 +144,8 @@ fn clear_last_kept(b: &Book, a: &mut Area, segment: usize, index: usize, shorter
     }
 }
 
-/// "New blocks of a resize are taken in rising index, each the lowest free one", and cleared whatever stood there.
+/// RULES 8.14: "Blocks are gained in the order of their place in the segment.", each the lowest free one
+/// (1.10), and cleared whatever stood there.
 fn add_block(b: &mut Book, a: &mut Area, segment: usize, index: usize) {
     let free = (0..BLOCKS).find(|i| block(b, *i).is_none()).expect("units bound the blocks");
     set_block(b, free, segment, index);

@@ -1,4 +1,4 @@
-//! "A book is sound when": the whole sentence, over what is live.
+//! Section 5 of docs/RULES.md, when a book is sound: all of it, over what is live.
 
 use crate::labels::flows;
 use crate::layout::*;
@@ -43,7 +43,7 @@ fn plain(b: &Book, row: usize) -> bool {
     label(b, row).well_formed(next(b), false)
 }
 
-/// "Thread and gate labels flow to their clearances."
+/// RULES 5.4: "The label of a thread or gate flows to its clearance."
 fn cleared(b: &Book, row: usize) -> bool {
     let (label, clearance) = (label(b, row), clearance(b, row));
     label.well_formed(next(b), true) && clearance.well_formed(next(b), false) && flows(label, clearance)

@@ -7,7 +7,8 @@ use crate::{BAD_AREAS, GRANTED, MALFORMED};
 const ROOT_QUOTA: u16 = 256;
 const LAST_FIRST_NUMBER: u64 = PAST_THE_END - 3;
 
-/// "Any other f answers 4, a wrong area length 1 (checked first); both areas then stay as lent."
+/// RULES 7.2: "It answers 1 if an area's length is wrong, and otherwise 4 if f is not in that range. It then
+/// leaves both areas as lent."
 pub fn start(book: &mut [u8], area: &mut [u8], first: u64) -> u64 {
     let b: &mut Book = match book.try_into() {
         Ok(b) => b,

@@ -36,7 +36,7 @@ impl Turn<'_> {
         Ok(self.number)
     }
 
-    /// "T flows to L, L to the clearance."
+    /// RULES 8.2: "7 unless T flows to L and L flows to T's clearance."
     fn set_label(self, label: &[u8]) -> Judged {
         let l = self.lent_label(label)?;
         need(flows(self.label(), l) && flows(l, self.clearance()), LABEL_CONDITION)?;
@@ -44,7 +44,7 @@ impl Turn<'_> {
         Ok(0)
     }
 
-    /// "T flows to C, C to join(clearance, high(T))."
+    /// RULES 8.3: "7 unless T flows to C and C flows to join(T's clearance, high(T))."
     fn set_clearance(self, clearance: &[u8]) -> Judged {
         let c = self.lent_starless(clearance)?;
         let within = flows(self.label(), c) && flows_to_join_high(c, self.clearance(), self.label());

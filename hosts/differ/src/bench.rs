@@ -7,7 +7,7 @@ use flytewood_hosts::book::*;
 use flytewood_hosts::model::{Call, Outcome, World, GRANTED, NUMBERS_ENDED};
 use flytewood_kernel::{Kernel, AREA_LEN};
 
-/// "1: an area has the wrong length, or the book is unsound."
+/// RULES 6.1: "An area's length is wrong, or the book is not sound."
 pub const BAD_AREA: u64 = 1;
 
 /// How many calls go by between two looks at the whole book's soundness.
@@ -186,7 +186,8 @@ struct Old {
 }
 
 impl Old {
-    /// "A refused call changes nothing in the book but the next number", and not even that after 1 and 2.
+    /// RULES 6.14: "It leaves both areas and every output as they were, unused bytes too, but for the next
+    /// number (4.2).", and not even that after 1 and 2.
     fn nothing_changed_but_the_number(&self, book: &[u8], area: &[u8], answer: u64) -> Checked {
         let kept = if answer == BAD_AREA || answer == NUMBERS_ENDED { 0 } else { NEXT.width };
         need(self.book.len() == book.len() && self.book[kept..] == book[kept..], || {
@@ -226,8 +227,8 @@ impl Old {
         Ok(())
     }
 
-    /// "Freed bytes are set to zero", and so are "a freed segment's blocks". What the rules do not name stays, or is
-    /// cleared with a block that is taken or freed.
+    /// RULES 8.14: ".. bytes that it loses are set to zero in the area." 8.8: "The blocks of a freed segment
+    /// are set to zero." What the rules do not name stays, or is cleared with a block that is taken or freed.
     fn byte_follows(&self, area: &[u8], was: &Standing, is: &Standing, place: usize) -> Checked {
         let (old, new) = (was.byte_at(place), is.byte_at(place));
         let (byte, stays) = (area[place], area[place] == self.area[place]);
@@ -300,7 +301,7 @@ fn moved(table: Table, number: usize, was: &Positions, is: &Positions) -> bool {
     }
 }
 
-/// "A create writes every field of its row, zero where the kind has none."
+/// docs/BOOK.md: "A create writes every number of its row, and 0 where the kind has none."
 fn unused_fields_are_zero(book: &[u8], row: usize) -> Checked {
     for table in TABLES.iter().filter(|table| table.count % ROWS == 0 && ![OWNER, INDEX].contains(table)) {
         let each = table.count / ROWS;

@@ -20,7 +20,7 @@ pub struct Damage {
     pub seen: Seen,
     pub unsound: usize,
     pub still_sound: usize,
-    /// How many of the books fail each clause of page 01's sentence, and how many fail it alone.
+    /// How many of the books fail each clause of section 5 of docs/RULES.md, and how many fail it alone.
     pub failing: [usize; CLAUSE_COUNT],
     pub failing_alone: [usize; CLAUSE_COUNT],
 }
@@ -46,7 +46,8 @@ fn refused_untouched(
     Ok(())
 }
 
-/// "An area has the wrong length", with the sixteen calls that a right one would grant, and with Start.
+/// RULES 6.1: "An area's length is wrong, ..", with the sixteen calls that a right one would grant, and with
+/// Start.
 pub fn areas_of_wrong_length(seen: &mut Seen) -> Checked {
     let bench = showcase::bench()?;
     let books = [0, 1, 8, BOOK_LEN - 1, BOOK_LEN + 1, 65_536];
@@ -70,7 +71,8 @@ pub fn areas_of_wrong_length(seen: &mut Seen) -> Checked {
     Ok(())
 }
 
-/// "Any other f answers 4, a wrong area length 1 (checked first); both areas then stay as lent."
+/// RULES 7.2: "It answers 1 if an area's length is wrong, and otherwise 4 if f is not in that range. It then
+/// leaves both areas as lent."
 fn started(book: &[u8], area: &[u8], first: u64, null: bool) -> Checked {
     let (mut lent_book, mut lent_area) = (Guarded::new(book), Guarded::new(area));
     let answer = {
@@ -185,7 +187,7 @@ fn signed_extremes(bench: &Bench, seen: &mut Seen) -> Checked {
     Ok(())
 }
 
-/// "From + count ≤ 64 (any u64 values: the sum must not wrap)", and with it 64k.
+/// RULES 8.12: ".. from + count, reckoned without overflow, is above 64.", and with it 64k.
 fn sums_that_would_wrap(bench: &Bench, values: &[u64], seen: &mut Seen) -> Checked {
     let (d, s) = (showcase::CONTAINER, showcase::SEGMENT);
     for from in values {
@@ -201,7 +203,7 @@ fn sums_that_would_wrap(bench: &Bench, values: &[u64], seen: &mut Seen) -> Check
     Ok(())
 }
 
-/// A book of any bytes: whatever page 01's sentence says of it decides.
+/// A book of any bytes: whatever section 5 of docs/RULES.md says of it decides.
 fn tried_book(book: &[u8], area: &[u8], world: &World, random: &mut Random, damage: &mut Damage) -> Checked {
     let failing = failing(book);
     for clause in &failing {

@@ -1,4 +1,6 @@
-//! The kernel's archive against the model of page 01.
+//! The kernel's archive against the model (`hosts/src/model.rs`) of page 01, the user's rules that
+//! docs/RULES.md restates. W5 below is the user's request that tainted work must not show (docs/RULES.md,
+//! section 12).
 //!
 //!     differ                               the fixed run of the gate
 //!     differ soak --minutes N [--seed S]   rounds of other seeds for so many minutes

@@ -1,5 +1,5 @@
-//! W5, "tainted work must not show", run: the archive driven through two histories at once. What a tainted
-//! caller does may differ; what untainted callers get and reach may not.
+//! W5, that tainted work must not show (docs/RULES.md, section 12), run: the archive driven through two
+//! histories at once. What a tainted caller does may differ; what untainted callers get and reach may not.
 
 mod features;
 mod leaks;

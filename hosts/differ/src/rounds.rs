@@ -10,12 +10,12 @@ use flytewood_hosts::coverage::{Seen, Table};
 use flytewood_hosts::random::Random;
 use std::time::Instant;
 
-/// "At least 200 histories of 400 calls, seeds fixed": the seeds 0 to below this, 17 for each theme.
+/// At least 200 histories of 400 calls, with fixed seeds: those from 0 to below this, 17 for each theme.
 const HISTORIES: u64 = 204;
 const DAMAGED_IN_A_ROUND: usize = 40;
 const CALLS_ELSEWHERE: usize = 25;
 const RANDOM_BOOKS: usize = 300;
-/// "A mixture that grants about half of the calls": so many in a hundred.
+/// The mixture is to grant about half of the calls: so many in a hundred.
 const GRANTED_AT_LEAST: usize = 40;
 const GRANTED_AT_MOST: usize = 60;
 

@@ -7,7 +7,7 @@ use flytewood_hosts::coverage::{count_one, Seen};
 use flytewood_hosts::model::{Call, Outcome};
 use flytewood_hosts::random::Random;
 
-/// "At least 200 histories of 400 calls."
+/// How many calls a history has.
 pub const CALLS: usize = 400;
 
 /// What all histories together came to.

@@ -8,7 +8,7 @@ mod raw;
 
 use std::ptr;
 
-/// The data area is "16,384 bytes, which is 256 blocks of 64".
+/// RULES 1.8: ".. the data area, 16,384 bytes in 256 blocks of 64."
 pub const AREA_LEN: usize = 16_384;
 
 /// What an out number holds before the call, so that one left unwritten shows.
@@ -65,7 +65,7 @@ pub struct Kernel<'a> {
     null_for_empty: bool,
 }
 
-/// "A byte slice is two arguments, pointer then length."
+/// RULES 9.3: "A slice is a pointer and a length, .."
 type Lent = (*const u8, usize);
 type LentMut = (*mut u8, usize);
 
@@ -81,7 +81,7 @@ impl<'a> Kernel<'a> {
         Kernel { book, area, null_for_empty: false }
     }
 
-    /// "An empty slice may come with any pointer, also a null one": from now on with a null one.
+    /// RULES 9.3: "An empty slice may have any pointer, also null; ..": from now on with a null one.
     pub fn with_null_for_empty(mut self) -> Kernel<'a> {
         self.null_for_empty = true;
         self
@@ -327,7 +327,7 @@ mod tests {
         }
     }
 
-    /// Page 01's `grantday`, its first lines: number, caller, call, answer, value.
+    /// The day `grantday` of RULES 10.2, its first lines: number, caller, call, answer, value.
     #[test]
     fn the_first_calls_of_grantday() {
         let mut areas = Areas::new();

@@ -1,4 +1,5 @@
-//! The archive's functions as INTERFACE.md has them: a slice is a pointer and a length, numbers are 64 bits wide.
+//! The archive's functions as include/flytewood.h declares them: a slice is a pointer and a length, numbers
+//! are 64 bits wide.
 
 type Bytes = *const u8;
 type Lent = *mut u8;

@@ -56,7 +56,7 @@ fn case(operation: u8, number: u64, x: Label, y: Label, z: Label) -> Case {
     Case { operation, number, x, y, z }
 }
 
-/// P1 to P9 of page 01, and the forms it calls easy errors.
+/// P1 to P9 of RULES 10.1, and the mistakes of RULES 10.3 that are about labels.
 fn worked_on_paper() -> Vec<Case> {
     let one = Label::plain(LEVEL_1);
     let at5 = |code| Label::of(LEVEL_1, &[(5, code)]);

@@ -40,7 +40,8 @@ pub fn any_book(random: &mut Random) -> Vec<u8> {
     styled(random, turn, &things, garbage)
 }
 
-/// "Start makes the root container f (label {1}, quota 256, mask 0) and in it thread f+1 (label {1}, clearance {2})."
+/// RULES 7.3: "Container f becomes the root, with label {1}, quota 256 and mask 0; thread f + 1 is linked in
+/// it, with label {1} and clearance {2}; .."
 pub fn start_book(first: u64) -> Vec<u8> {
     let mut book = vec![0; BOOK_LEN];
     set(&mut book, NEXT, 0, first + 2);

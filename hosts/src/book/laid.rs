@@ -87,7 +87,7 @@ impl Layer<'_> {
     }
 }
 
-/// "The root is the one container without a link."
+/// RULES 5.5: "One container of quota 256 is the root, linked nowhere, .."
 fn root_of(world: &World) -> u64 {
     let linked = |id: &u64| world.links.iter().any(|(_, o)| o == id);
     world.containers().into_iter().find(|id| !linked(id)).expect("a container that no link leads to")

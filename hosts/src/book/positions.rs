@@ -1,5 +1,5 @@
-//! Which row, link or block of a book each thing has: "Freed rows, links and blocks are used again; a new one is the
-//! lowest free one."
+//! Which row, link or block of a book each thing has. RULES 1.10: ".. the free one with the lowest number is
+//! taken, so what was freed is used again."
 
 use super::*;
 use crate::model::{Object, World};
@@ -48,7 +48,8 @@ impl Positions {
         free(&mut self.blocks, |(id, index)| *index >= after.objects.get(id).map_or(0, block_count));
     }
 
-    /// "New blocks of a resize are taken in rising index, each the lowest free one."
+    /// RULES 8.14: "Blocks are gained in the order of their place in the segment." Each is the lowest free
+    /// one (1.10).
     fn place_what_is_new(&mut self, before: &World, after: &World) {
         for (id, object) in &after.objects {
             let old = before.objects.get(id);

@@ -185,7 +185,7 @@ fn places_of(things: &[Thing], kind: u64) -> Vec<usize> {
     (0..things.len()).filter(|place| things[*place].kind == kind).collect()
 }
 
-/// "Spare is quota less use."
+/// RULES 3.4: "An object's spare is its quota minus the units it uses."
 fn spare(things: &[Thing], place: usize) -> u64 {
     let inside = things.iter().filter(|thing| thing.parents.contains(&place));
     things[place].quota - 1 - inside.map(|thing| thing.quota).sum::<u64>()

@@ -42,7 +42,8 @@ fn bytes_of_row(book: &[u8], table: Table, row: usize, len: usize) -> Vec<u8> {
     book[at..at + len].to_vec()
 }
 
-/// Block k of the segment is "the area's 64 bytes from 64 × k on" of the block that says so.
+/// docs/BOOK.md: "block k is the area's 64 bytes from 64 × k on". The segment's block k is that of the block
+/// that says so.
 fn segment_bytes(book: &[u8], area: &[u8], row: usize) -> Vec<u8> {
     let len = get(book, LEN, row) as usize;
     let mut bytes = vec![0; blocks_for(len as u64) as usize * BLOCK_LEN as usize];

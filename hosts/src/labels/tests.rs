@@ -1,4 +1,4 @@
-//! P1 to P10 of page 01, "Worked on paper", and what a label's form demands.
+//! P1 to P10 of what is worked on paper (RULES 10.1), and what a label's form demands.
 
 use super::*;
 

@@ -4,11 +4,12 @@ use super::{granted, lent_label, lent_starless, need, Body, Caller, Judged, Kind
 use super::{CLOSURE_LEN, DESCRIPTION_LEN, LABEL_CONDITION, MALFORMED, MASK_FORBIDS, NOT_ENOUGH_SPARE};
 use crate::labels::*;
 
-/// "Quota 0 in a create means the default: segment 5, container 16. Otherwise 1 to 255."
+/// RULES 3.7: "The quota given to call 4 or 5 is at most 255, and 0 stands for a default: 16 for a container,
+/// 5 for a segment."
 const DEFAULT_SEGMENT_QUOTA: u64 = 5;
 const DEFAULT_CONTAINER_QUOTA: u64 = 16;
 const MOST_QUOTA: u64 = 255;
-/// "Mask: bit 0 thread to bit 3 container, at most 15."
+/// RULES 1.6: "A container also has a mask, a number from 0 to 15 that forbids kinds: .."
 const MOST_MASK: u64 = 15;
 
 fn lent_quota(quota: u64, default: u64) -> Result<u64, u64> {
@@ -16,7 +17,7 @@ fn lent_quota(quota: u64, default: u64) -> Result<u64, u64> {
     Ok(if quota == 0 { default } else { quota })
 }
 
-/// "A description is 32 bytes."
+/// RULES 1.2: ".. a description of 32 bytes."
 fn lent_description(description: &[u8]) -> Result<Vec<u8>, u64> {
     need(description.len() == DESCRIPTION_LEN, MALFORMED)?;
     Ok(description.to_vec())
@@ -95,14 +96,14 @@ impl World {
         need(parents_mask & new.kind().mask_bit() == 0, MASK_FORBIDS)?;
         need(new.quota <= self.spare(d), NOT_ENOUGH_SPARE)?;
         if let Body::Container { mask } = &mut new.body {
-            *mask |= parents_mask; // "a new container also gets D's bits"
+            *mask |= parents_mask; // RULES 8.4: ".. and those of D's mask."
         }
         self.objects.insert(t.number, new);
         self.links.insert((d, t.number));
         granted(t.number)
     }
 
-    /// "T may write D." There is no condition on O's kind or label.
+    /// RULES 8.8: "7 unless T may write D. .. O's kind and label are not asked."
     pub(super) fn unreference(&mut self, t: &Caller, d: u64, o: u64) -> Judged {
         self.entry(t, d, o)?;
         need(self.may_write_container(t, d), LABEL_CONDITION)?;
@@ -110,7 +111,8 @@ impl World {
         granted(0)
     }
 
-    /// "An object with no link left is freed. Unreferencing a container unreferences everything in it, and so on down."
+    /// RULES 8.8: "An object that is linked nowhere any more is freed, except the root. If it is a container,
+    /// all links in it go too, and so on downwards."
     fn remove_link(&mut self, d: u64, o: u64) {
         self.links.remove(&(d, o));
         if !self.holders_of(o).is_empty() {
@@ -125,7 +127,8 @@ impl World {
     }
 }
 
-/// "T flows to the label, the label to the new clearance if any, that to T's clearance."
+/// RULES 8.4: ".. T flows to the new label, that flows to the new clearance if there is one, and the last of
+/// these flows to T's clearance."
 fn may_make(t: &Caller, new: &Object) -> bool {
     let top = new.clearance().unwrap_or(new.label);
     flows(&t.label, &new.label) && flows(&new.label, &top) && flows(&top, &t.clearance)

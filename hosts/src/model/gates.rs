@@ -38,7 +38,8 @@ impl World {
     }
 }
 
-/// "T flows to G's clearance and to L_V; floor(T, G) to L_R, L_R to C_R, C_R to join(both clearances)."
+/// RULES 8.15: "7 unless T flows to G's clearance, T flows to L_V, floor(T, G) flows to L_R, L_R flows to
+/// C_R, and C_R flows to join(T's clearance, G's clearance)."
 fn may_enter(
     t: &Caller,
     gate_label: &Label,
@@ -54,9 +55,10 @@ fn may_enter(
         && flows_to_join(clearance_r, &t.clearance, gate_clearance)
 }
 
-/// "Description 32; kind; 1 if the label is shown; default code; five zeros; eight words, little-endian."
+/// RULES 8.16: "Output: the description in 32 bytes; the kind's code; 1, for a label that is shown; the
+/// label's default code; five zeros; the eight words in eight bytes each, the lowest first."
 fn sight(t: &Caller, object: &Object) -> Vec<u8> {
-    // "A thread's label is shown only if T may read it, else zeros there."
+    // RULES 8.16: "If O is a thread that T may not read, all bytes after the kind's code are 0."
     let shown = object.kind() != Kind::Thread || may_read(&t.label, &object.label);
     let label = if shown { object.label } else { Label { default: 0, words: [0; WORDS] } };
     let mut output = object.description.clone();

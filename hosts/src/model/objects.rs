@@ -1,4 +1,5 @@
-//! "Four kinds of object: 1 thread, 2 gate, 3 segment, 4 container."
+//! RULES 1.1: "An object is of one of four kinds, each with a code: thread (1), gate (2), segment (3),
+//! container (4)."
 
 use crate::labels::Label;
 
@@ -20,7 +21,7 @@ impl Kind {
         }
     }
 
-    /// "Mask: bit 0 thread to bit 3 container."
+    /// RULES 1.6: ".. bit 0 forbids threads, bit 1 gates, bit 2 segments and bit 3 containers."
     pub fn mask_bit(self) -> u64 {
         1 << (self.number() - 1)
     }
@@ -83,7 +84,7 @@ impl Object {
     }
 }
 
-/// "A segment of n bytes uses 1 + n/64 rounded up."
+/// RULES 3.2: ".. with n bytes, 1 + (n + 63) / 64 rounded down."
 pub fn segment_use(length: u64) -> u64 {
     1 + (length + 63) / 64
 }

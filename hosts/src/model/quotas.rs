@@ -4,11 +4,12 @@ use super::{granted, need, Body, Caller, Judged, Kind, World};
 use super::{ALREADY_LINKED, FIXED_OR_NOT, LABEL_CONDITION, MALFORMED, NOT_ENOUGH_SPARE, WRONG_KIND};
 use crate::labels::*;
 
-/// "Move n, -256 to 256."
+/// RULES 8.11: "4 unless n is from -256 to 256."
 const MOST_MOVED: i64 = 256;
 
 impl World {
-    /// "T may write D; O flows to T's clearance." The mask "is judged at creation only", so not here.
+    /// RULES 8.9: "7 unless T may write D and O flows to T's clearance." 8.4, of creates: "No other call
+    /// looks at a mask."
     pub(super) fn link_segment(&mut self, t: &Caller, d1: u64, o: u64, d: u64) -> Judged {
         let object = self.entry(t, d1, o)?;
         self.readable_container(t, d)?;
@@ -22,7 +23,8 @@ impl World {
         granted(0)
     }
 
-    /// "T may write D, T flows to O. Already fixed: granted."
+    /// RULES 8.10: "7 unless T may write D and T flows to O. O's quota is fixed for good; if it was fixed
+    /// before, nothing changes."
     pub(super) fn fix_quota(&mut self, t: &Caller, d: u64, o: u64) -> Judged {
         let object = self.entry(t, d, o)?;
         need(object.kind() == Kind::Segment, WRONG_KIND)?;
@@ -33,7 +35,8 @@ impl World {
         granted(0)
     }
 
-    /// "T may write D; T flows to O, O to T's clearance; if n < 0, O flows to high(T)."
+    /// RULES 8.11: "7 unless T may write D, T flows to O, O flows to T's clearance and, for n below 0, O
+    /// flows to high(T)."
     pub(super) fn move_quota(&mut self, t: &Caller, d: u64, o: u64, n: i64) -> Judged {
         need((-MOST_MOVED..=MOST_MOVED).contains(&n), MALFORMED)?;
         let object = self.entry(t, d, o)?;
@@ -44,7 +47,7 @@ impl World {
         need(self.may_write_container(t, d) && label_suits, LABEL_CONDITION)?;
         need(!object.is_fixed(), FIXED_OR_NOT)?;
         let units = n.unsigned_abs();
-        let giver = if n > 0 { d } else { o }; // "n > 0 needs spare in D, n < 0 in O"
+        let giver = if n > 0 { d } else { o }; // RULES 8.11, test 13
         need(units <= self.spare(giver), NOT_ENOUGH_SPARE)?;
         let object = self.objects.get_mut(&o).expect("the entry's object is live");
         object.quota = if n > 0 { object.quota + units } else { object.quota - units };

@@ -92,7 +92,7 @@ pub enum Call {
 }
 
 impl Call {
-    /// The call's number on page 01, 1 to 16.
+    /// The call's number, 1 to 16: n of RULES 8.n.
     pub fn number(&self) -> u64 {
         match self {
             Call::CreateCategory => 1,

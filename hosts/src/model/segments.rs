@@ -6,12 +6,12 @@ use crate::labels::*;
 use std::ops::Range;
 
 const BLOCK_LEN: u64 = 64;
-/// "Block k up to 253."
+/// RULES 8.12: "4 if k is above 253, .."
 const LAST_BLOCK: u64 = 253;
-/// "Length up to 16,256."
+/// RULES 8.14: "4 if the length is above 16,256."
 const MOST_LENGTH: u64 = 16_256;
 
-/// "From + count ≤ 64", for any numbers: "the sum must not wrap".
+/// RULES 8.12: ".. from + count, reckoned without overflow, is above 64."
 fn lent_part(k: u64, from: u64, count: u64) -> Result<Range<u64>, u64> {
     let fits = from.checked_add(count).map_or(false, |end| end <= BLOCK_LEN);
     need(k <= LAST_BLOCK && fits, MALFORMED)?;
@@ -19,7 +19,7 @@ fn lent_part(k: u64, from: u64, count: u64) -> Result<Range<u64>, u64> {
     Ok(first..first + count)
 }
 
-/// "Answer 11 means 64k + from + count is above the length, for count 0 too."
+/// RULES 8.12: "11 if 64k + from + count is above S's length, even if count is 0."
 fn within(part: &Range<u64>, segment: &Object) -> Result<Range<usize>, u64> {
     need(part.end <= segment.bytes().len() as u64, BEYOND_THE_LENGTH)?;
     Ok(part.start as usize..part.end as usize)
@@ -47,7 +47,7 @@ impl World {
         Ok((0, segment.bytes()[part].to_vec()))
     }
 
-    /// "Call 13 is lent exactly count bytes."
+    /// RULES 8.13: "4 as in 8.12, and unless there are exactly count bytes."
     #[allow(clippy::too_many_arguments)]
     pub(super) fn write(
         &mut self,
@@ -68,7 +68,7 @@ impl World {
         granted(0)
     }
 
-    /// "New bytes are zero." A fixed quota does not fix the length.
+    /// RULES 8.14: "Bytes that it gains are zero, .. Whether the quota is fixed does not matter."
     pub(super) fn resize(&mut self, t: &Caller, d: u64, s: u64, length: u64) -> Judged {
         need(length <= MOST_LENGTH, MALFORMED)?;
         let segment = self.segment_entry(t, d, s)?;

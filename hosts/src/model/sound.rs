@@ -1,4 +1,5 @@
-//! Page 01's sentence on a sound book, as far as it concerns objects, links, labels, quotas and masks.
+//! When a book is sound (section 5 of docs/RULES.md), as far as it concerns objects, links, labels, quotas
+//! and masks.
 
 use super::{Body, Kind, Object, World, CLOSURE_LEN, DESCRIPTION_LEN, ROOT_QUOTA};
 use crate::labels::*;
@@ -53,7 +54,8 @@ impl World {
         checks.iter().filter(|(holds, _)| !holds).map(|(_, flaw)| *flaw).collect()
     }
 
-    /// "Labels are well formed against it; thread and gate labels flow to their clearances."
+    /// RULES 5.3: "Each label and clearance is well formed below the next number." 5.4: "The label of a
+    /// thread or gate flows to its clearance."
     fn labels_suit(&self, object: &Object) -> bool {
         match object.clearance() {
             Some(clearance) => {
@@ -74,7 +76,7 @@ impl World {
         }
     }
 
-    /// "Thread and gate quota 1; root's 256, other quotas 1 to 255."
+    /// RULES 5.1: ".. a thread or gate has quota 1, the root 256, anything else 1 to 255; .."
     fn quota_in_range(&self, id: u64, object: &Object) -> bool {
         match object.kind() {
             Kind::Thread | Kind::Gate => object.quota == 1,
@@ -83,7 +85,8 @@ impl World {
         }
     }
 
-    /// "Every other object has a link, exactly one unless it is a segment with its quota fixed."
+    /// RULES 5.6: "Any other object is linked somewhere. Only a segment whose quota is fixed may be linked in
+    /// more than one container."
     fn links_suit(&self, id: u64, object: &Object) -> bool {
         let links = self.holders_of(id).len();
         links == 1 || (links == 0 && object.kind() == Kind::Container) || (links > 1 && object.is_fixed())
@@ -93,7 +96,8 @@ impl World {
         self.linked_in(id).iter().all(|o| self.objects.contains_key(o))
     }
 
-    /// A link joins a live container and a live object, and "a child's mask includes its parent's".
+    /// A link joins a live container and a live object. RULES 5.9: "A container's mask has all bits of the
+    /// mask of the container that it is linked in."
     fn link_flaw(&self, d: u64, o: u64) -> Option<&'static str> {
         match (self.objects.get(&d), self.objects.get(&o)) {
             (Some(parent), Some(child)) => {
@@ -110,7 +114,8 @@ impl World {
         }
     }
 
-    /// Demand 3: "the objects in its tree, each counted once". Held are 1, or a segment's use.
+    /// Demand 3 (docs/DEMANDS.md): "the objects in its tree, each counted once". Held are 1, or a segment's
+    /// use.
     pub fn held(&self, id: u64) -> u64 {
         let mut tree = BTreeSet::new();
         self.gather(id, &mut tree);
@@ -126,7 +131,7 @@ impl World {
     }
 }
 
-/// "What an object holds is 1 for a thread, gate or container, and its use for a segment."
+/// RULES 3.5: "A segment holds the units that it uses; a thread, a gate or a container holds 1."
 fn held_alone(object: &Object) -> u64 {
     match &object.body {
         Body::Segment { bytes, .. } => super::segment_use(bytes.len() as u64),

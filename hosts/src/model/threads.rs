@@ -5,7 +5,8 @@ use super::{LABEL_CONDITION, NINTH_PAIR};
 use crate::labels::*;
 
 impl World {
-    /// "T gets star at the new category, and clearance 3 there (no pair if its clearance default is 3)."
+    /// RULES 8.1: "T's label gets star at the new category. T's clearance gets level 3 there, by a pair
+    /// unless its default is level 3."
     pub(super) fn create_category(&mut self, t: &Caller) -> Judged {
         let label = t.label.insert(t.number, STAR).ok_or(NINTH_PAIR)?;
         let clearance = if t.clearance.default == LEVEL_3 {
@@ -17,7 +18,7 @@ impl World {
         granted(t.number)
     }
 
-    /// "T flows to L, L to the clearance."
+    /// RULES 8.2: "7 unless T flows to L and L flows to T's clearance."
     pub(super) fn set_label(&mut self, t: &Caller, label: &[u8]) -> Judged {
         let l = lent_label(label, t.number)?;
         need(flows(&t.label, &l) && flows(&l, &t.clearance), LABEL_CONDITION)?;
@@ -25,7 +26,7 @@ impl World {
         granted(0)
     }
 
-    /// "T flows to C, C to join(clearance, high(T))."
+    /// RULES 8.3: "7 unless T flows to C and C flows to join(T's clearance, high(T))."
     pub(super) fn set_clearance(&mut self, t: &Caller, clearance: &[u8]) -> Judged {
         let c = lent_starless(clearance, t.number)?;
         let within = flows_to_join_high(&c, &t.clearance, &t.label);

@@ -259,7 +259,8 @@ and-false : (a : Bool) → (a && false) ≡ false
 and-false true = refl
 and-false false = refl
 
--- Page 01's entry, "or does not hold the named object": one that is found is an entry to whoever may read the container's label; what is not found is none.
+-- RULES 6.15: "A pair (D, O) is an entry for the caller T if D is a container, T may read D, and O is linked
+-- in D." One that is found is an entry to whoever may read the container's label; what is not found is none.
 module _ (v : View) (area : List ℕ) (t : Obj) (d o : ℕ) where
   pub entry-opens : (c r l : ℕ) → entryPlace v d o ≡ place.In c r l → entry (worldOf v area) t d o ≡ mayRead (t .label) (labelOf v c)
   unfolding entry

@@ -73,7 +73,7 @@ Needs v r = when (eqb (codeOf v r) segmentCode) (blocksOf (lenOf v r))
 abbrev Has : View → ℕ → ℕ
 Has v r = when (eqb (codeOf v r) segmentCode) (Σ (blocksOf (lenOf v r)) (λ k. timesHeld v r k))
 
--- "each segment has exactly its blocks"
+-- RULES 5.10: "A segment has one block for each 64 bytes that it has or begins, no more and no fewer, .."
 abbrev pub Whole : View → Type 0
 Whole v = (r : ℕ) → r < rowCount → codeOf v r ≡ segmentCode → (k : ℕ) → k < blocksOf (lenOf v r) → timesHeld v r k ≡ 1
 

@@ -32,7 +32,7 @@ pred-same zero y p q e = absurd (p refl)
 pred-same (suc x) zero p q e = absurd (q refl)
 pred-same (suc x) (suc y) p q e = omega arith
 
--- "a child's mask includes its parent's"
+-- RULES 5.9: "A container's mask has all bits of the mask of the container that it is linked in."
 abbrev pub Masked : View → ℕ → Type 0
 Masked v l = codeOf v (toOf v l) ≡ containerCode → bitOr (maskOf v (toOf v l)) (maskOf v (fromOf v l)) ≡ maskOf v (toOf v l)
 

@@ -74,7 +74,7 @@ module _ (v : View) (s : Sound v) (r : ℕ) (a : Live v r) where
       bool-cases (eqb (codeOf v r) containerCode) (λ t. f (eqb-true (codeOf v r) containerCode t))
       (λ t. bool-cases (eqb (codeOf v r) segmentCode) (λ u. g (eqb-true (codeOf v r) segmentCode u)) (λ u. h (eqb-false (codeOf v r) containerCode t) (eqb-false (codeOf v r) segmentCode u)))
 
-  -- "use never exceeds quota"
+  -- RULES 5.8: "No object uses more units than its quota has."
   pub use-within : useAt v r ≤ quotaOf v r
   use-within =
       by-kind (λ e. omega (arith, use-container-row v r e, s .container-fits r a e))

@@ -1,4 +1,4 @@
--- Theorem 4: the spare of a container, reckoned from the history as page 01 says, is its spare.
+-- Theorem 4: the spare of a container, reckoned from the history as RULES 3.8 says, is its spare.
 use Prim.Native.Nat.{ℕ, _+_, _≤_}
 use native.Mathlib.Omega.{arith}
 use mathlib.Core.Bool.{true}

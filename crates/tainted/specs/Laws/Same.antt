@@ -60,7 +60,8 @@ module _ {v : ℕ} {t : Obj} {a b : World} (s : Before v t a b) where
 
   -- ---- what is named
 
-  -- "an unreadable container and an absent one are one answer": what opens in one world opens in the other
+  -- RULES 6.5: a container that may not be read and one that does not exist are one answer. What opens in one
+  -- world opens in the other.
   pub opens-same : (d : ℕ) → opens a t d ≡ opens b t d
   opens-same d =
       bool-cases (untaintedContainer v (a .obj d))

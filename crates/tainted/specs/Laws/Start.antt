@@ -1,4 +1,4 @@
--- Page 01's start has the terms of W5.
+-- What Start leaves (RULES 7.3) has the terms that W5 asks of a start (RULES 12.2).
 use Prim.Native.Nat.{ℕ, _+_, _<_}
 use native.Mathlib.Omega.{arith}
 use mathlib.Core.Bool.{true}

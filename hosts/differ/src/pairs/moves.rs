@@ -1,4 +1,5 @@
-//! The calls of the two histories, drawn to suit a world: what W5 is about, and the mixture of other runs.
+//! The calls of the two histories, drawn to suit a world: what W5 (docs/RULES.md, section 12) is about, and
+//! the mixture of other runs.
 
 use super::untainted::{threads, untainted, untainted_threads, with_level};
 use crate::mixture::{draw_of, fill_in};
@@ -259,7 +260,8 @@ fn look_at_something_tainted(hand: &mut Hand) -> Option<Call> {
     Some(look(d, o))
 }
 
-/// Unreadable in one history and absent in the other: "existence leaks" if the answers differ.
+/// Unreadable in one history and absent in the other: that it exists would show if the answers differed
+/// (RULES 10.3, (a)).
 fn name_a_container_of_one_world(hand: &mut Hand) -> Option<Call> {
     let (here, there) = (hand.world.containers(), hand.other.containers());
     let mut of_one: Vec<u64> = here.iter().copied().filter(|d| !there.contains(d)).collect();
@@ -297,7 +299,7 @@ fn name(hand: &mut Hand, d: u64) -> Call {
     }
 }
 
-/// "Unreferencing a container unreferences everything in it", whatever that is.
+/// RULES 8.8: "If it is a container, all links in it go too, ..", whatever they lead to.
 fn cut_a_tainted_container(hand: &mut Hand) -> Option<Call> {
     let room = |hand: &Hand, o: u64| hand.kind(o) == Kind::Container && !hand.plain(o);
     let (d, o) = hand.entry(|hand, d, o| hand.plain(d) && room(hand, o))?;
@@ -384,7 +386,7 @@ fn rise(hand: &mut Hand) -> Option<Call> {
     Some(set_label(label))
 }
 
-/// Refused: "T flows to L".
+/// Refused, since T does not flow to L (RULES 8.2).
 fn sink(hand: &mut Hand) -> Option<Call> {
     let label = hand.label;
     let code = hand.random.pick(&[STAR, LEVEL_0, LEVEL_1, LEVEL_2]);
@@ -432,7 +434,7 @@ fn cut_within_a_room(hand: &mut Hand) -> Option<Call> {
     Some(unreference(d, o))
 }
 
-/// "Call 8 may free the caller itself, or the container it lives in."
+/// RULES 8.8: "The caller may free itself or what it is linked in; its next call then answers 3."
 fn cut_itself(hand: &mut Hand) -> Option<Call> {
     if hand.random.chance(70) {
         return None;

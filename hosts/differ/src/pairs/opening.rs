@@ -221,7 +221,7 @@ impl<'a> Opening<'a> {
         Ok(())
     }
 
-    /// "Each object of level 1 or less in v is linked only in such containers."
+    /// RULES 12.2: ".. untainted objects are linked in untainted containers only."
     fn furnish_one(&mut self, d: u64) -> Checked {
         let plain = self.untainted(d) && self.random.chance(60);
         let label = if plain { self.plain_label() } else { self.tainted_label() };
@@ -257,7 +257,7 @@ impl<'a> Opening<'a> {
         Ok(())
     }
 
-    /// "Nothing holds star in v": the owner keeps some level there.
+    /// RULES 12.2: ".. no object has star at v, ..": the owner keeps some level there.
     pub fn give_up(&mut self) -> Checked {
         let level = self.random.pick(&[LEVEL_1, LEVEL_1, LEVEL_1, LEVEL_1, LEVEL_0, LEVEL_2, LEVEL_3]);
         let label = with_level(&self.world().objects[&self.owner].label, self.v, level);

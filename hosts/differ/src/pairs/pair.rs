@@ -127,7 +127,8 @@ pub fn pair(seed: u64, leak: Option<&'static Leak>, telling: bool, tally: &mut T
 }
 
 impl<'a> Pair<'a> {
-    /// "With the same start. Row, link and block positions are excepted."
+    /// RULES 12.3: "Two histories go from that start." 12.6: "Which rows, links and blocks are used may
+    /// differ, .."
     fn of(start: Start, mut random: Random, telling: bool, tally: &'a mut Tally) -> Result<Pair<'a>, String> {
         let first = Side::over(&start.book, &start.area);
         the_three_terms(&first.world, start.v)?;
@@ -198,8 +199,8 @@ impl<'a> Pair<'a> {
         }
     }
 
-    /// "The same calls from callers whose level in one category v is then at most 1. Callers above it may
-    /// call differently."
+    /// RULES 12.3: "At each number the same caller calls in both, and if it is untainted it makes the same
+    /// call in both. Other callers may make different calls."
     fn calls(&mut self, caller: u64, untainted: bool) -> [Call; 2] {
         let [first, second] = [&self.sides[0].world, &self.sides[1].world];
         if untainted {
@@ -217,8 +218,8 @@ impl<'a> Pair<'a> {
         [one, other]
     }
 
-    /// "Every object of level 1 or less in v reached through such containers is the same, with the same links
-    /// there."
+    /// RULES 12.5: "And each untainted object that is reached from the root through untainted containers is
+    /// the same in both, with the same links in those containers."
     fn look_the_same(&self) -> Checked {
         let shown = |i: usize| Shown::of(&self.sides[i].world, self.sides[i].root(), self.v);
         shown(0).same_as(&shown(1))
@@ -242,7 +243,8 @@ impl<'a> Pair<'a> {
     }
 }
 
-/// "The others get the same answers, values and bytes." A read's place is a position, and excepted.
+/// RULES 12.4: "Then each call of an untainted caller gets the same answer, value and output in both." A
+/// read's place may differ (12.6).
 fn the_same_was_given(one: &Given, other: &Given) -> Checked {
     need((one.answer, one.value) == (other.answer, other.value), || {
         format!("{} with value {}, but {} with value {}", one.answer, one.value, other.answer, other.value)

@@ -42,7 +42,7 @@ impl Side {
         get(self.book.bytes(), ROOT, 0)
     }
 
-    /// "Two histories without answer 1."
+    /// RULES 12.3: "No call answers 1."
     pub fn ask(&mut self, caller: u64, call: &Call) -> Result<Answered, String> {
         let null = self.calls % 2 == 1;
         self.calls += 1;

@@ -1,4 +1,5 @@
-//! The starts of the pairs: worlds in which W5's three terms hold, made by real calls or from elsewhere.
+//! The starts of the pairs: worlds in which the three terms of W5 (RULES 12.2) hold, made by real calls or
+//! from elsewhere.
 
 use super::opening::{one, two, Opening};
 use super::untainted::{the_three_terms, threads, untainted, untainted_threads, with_level};
@@ -196,7 +197,7 @@ fn crowded_room(opening: &mut Opening) -> Checked {
     opening.give_up()
 }
 
-/// "Categories of a label need not have been issued by call 1": nobody ever held star in this one.
+/// RULES 2.16: "That call 1 has issued a category is not asked.": nobody ever held star in this one.
 fn never_issued(opening: &mut Opening) -> Checked {
     let refused = opening.world().next;
     opening.take(opening.owner, look(0, 0))?;

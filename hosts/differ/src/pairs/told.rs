@@ -7,7 +7,7 @@ use flytewood_hosts::model::Call;
 
 const LEVELS: [&str; 6] = ["star", "0", "1", "2", "3", "high star"];
 
-/// Its name, its numbers, its labels as page 01 writes them, and how long its other slices are.
+/// Its name, its numbers, its labels as RULES 2.5 writes them, and how long its other slices are.
 pub fn told(call: &Call) -> String {
     let (name, _) = CAN_OCCUR[call.number() as usize - 1];
     let mut call = call.clone();

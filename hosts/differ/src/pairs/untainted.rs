@@ -1,16 +1,18 @@
-//! W5's words on one world: who is tainted in v, what is reached, and what must be the same in both.
+//! What W5 (docs/RULES.md, section 12) says of one world: who is tainted in v, what is reached, and what must
+//! be the same in both.
 
 use crate::bench::{need, Checked};
 use flytewood_hosts::labels::{Label, LEVEL_1, STAR, WORDS};
 use flytewood_hosts::model::{Kind, Object, World};
 use std::collections::{BTreeMap, BTreeSet};
 
-/// "Level at most 1": code 2 or less.
+/// RULES 12.1: ".. at most 1 (code 2 or less), .."
 pub fn untainted(object: &Object, v: u64) -> bool {
     object.label.level(v) <= LEVEL_1
 }
 
-/// "A caller that is no live thread has no level."
+/// RULES 12.1: "A caller is untainted or tainted by its label at the time; if it is no live thread, it is
+/// neither."
 pub fn untainted_thread(world: &World, id: u64, v: u64) -> bool {
     let suits = |object: &Object| object.kind() == Kind::Thread && untainted(object, v);
     world.objects.get(&id).map_or(false, suits)
@@ -38,8 +40,8 @@ pub fn with_level(label: &Label, v: u64, code: u8) -> Option<Label> {
     }
 }
 
-/// "At the start v is below the next number, nothing holds star in v, and each object of level 1 or less in v
-/// is linked only in such containers."
+/// RULES 12.2: ".. v is less than the next number, no object has star at v, and untainted objects are linked
+/// in untainted containers only."
 pub fn the_three_terms(world: &World, v: u64) -> Checked {
     need(1 <= v && v < world.next, || format!("v is {} and the next number {}", v, world.next))?;
     let owner = world.objects.iter().find(|(_, object)| object.label.level(v) == STAR);
@@ -51,8 +53,8 @@ pub fn the_three_terms(world: &World, v: u64) -> Checked {
     })
 }
 
-/// "From the root by links of containers whose level in v is at most 1; if the root's is above, nothing is
-/// reached."
+/// From the root by links of containers whose level in v is at most 1; if the root's is above, nothing is
+/// reached (RULES 12.5).
 pub fn reached(world: &World, root: u64, v: u64) -> BTreeSet<u64> {
     let mut found = BTreeSet::new();
     let mut open = vec![root];
@@ -78,7 +80,8 @@ pub struct Shown<'a> {
     root: u64,
     threads: Vec<u64>,
     reached: BTreeSet<u64>,
-    /// "Every object of level 1 or less in v reached through such containers", and "the same links there".
+    /// RULES 12.5: ".. each untainted object that is reached from the root through untainted containers .."
+    /// and ".. the same links in those containers."
     objects: BTreeMap<u64, &'a Object>,
     links: BTreeSet<(u64, u64)>,
 }

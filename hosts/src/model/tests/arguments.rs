@@ -1,5 +1,5 @@
-//! READINGS.md on numbers and on answer 4, which "looks at the arguments alone, never at the book beyond its next
-//! number": every malformed call here names containers that are not there.
+//! Readings on numbers and on answer 4 (docs/DECISIONS.md). RULES 6.4: "This test sees the arguments and the
+//! next number, and nothing else.": every malformed call here names containers that are not there.
 
 use crate::ask::*;
 use crate::history::Script;

@@ -1,4 +1,4 @@
-//! Page 01, "Easy errors here".
+//! Mistakes that are easily made: RULES 10.3.
 
 use crate::ask::*;
 use crate::history::Script;
@@ -9,7 +9,8 @@ fn one() -> Label {
     Label::plain(LEVEL_1)
 }
 
-/// "Answering 7 for an unreadable container and 5 for an absent one: existence leaks."
+/// RULES 10.3: "(a) to answer 7 where a container may not be read and 5 where there is none, which tells that
+/// it exists;"
 #[test]
 fn an_unreadable_container_answers_as_an_absent_one() {
     let mut s = Script::new("existence", 5);
@@ -28,7 +29,7 @@ fn an_unreadable_container_answers_as_an_absent_one() {
     }
 }
 
-/// "Comparing named categories only."
+/// RULES 10.3: "(b) to compare labels only at the categories that they name;"
 #[test]
 fn the_defaults_are_compared() {
     let mut s = Script::new("defaults", 5);
@@ -37,7 +38,7 @@ fn the_defaults_are_compared() {
     s.grant(6, segment(5, Label::of(LEVEL_2, &[(3, LEVEL_1)]), 0));
 }
 
-/// "Letting a refused call keep its number for the next one."
+/// RULES 10.3: "(c) to give the number of a refused call to the next one;"
 #[test]
 fn a_refused_call_takes_its_number() {
     let mut s = Script::new("numbers", 5);
@@ -45,7 +46,8 @@ fn a_refused_call_takes_its_number() {
     assert_eq!(s.grant(6, segment(5, one(), 0)), 8);
 }
 
-/// "Clearing a block when it is freed and trusting it to be zero later": new bytes are zero whatever happened.
+/// RULES 10.3: "(d) to set a block to zero when it is freed, and rely on that when it is taken again;" New
+/// bytes are zero whatever happened.
 #[test]
 fn new_bytes_are_zero() {
     let mut s = Script::new("zeros", 5);
@@ -61,7 +63,8 @@ fn new_bytes_are_zero() {
     assert_eq!(s.output(6, read(5, new, 0, 0, 64)), vec![0; 64]);
 }
 
-/// "Counting a second link's charge once": it is charged in both containers, also where one lies in the other.
+/// RULES 10.3: "(e) to charge a segment that is linked twice only once.": it is charged in both containers,
+/// also where one lies in the other.
 #[test]
 fn a_second_link_is_charged_again() {
     let mut s = Script::new("charges", 5);

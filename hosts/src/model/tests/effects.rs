@@ -1,4 +1,4 @@
-//! READINGS.md, "Effects", and what demand 3 says over histories.
+//! Readings on effects (docs/DECISIONS.md), and what demand 3 (docs/DEMANDS.md) says over histories.
 
 use crate::ask::*;
 use crate::history::Script;

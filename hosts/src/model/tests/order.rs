@@ -1,4 +1,4 @@
-//! READINGS.md, "Order of check", from answer 5 on.
+//! Readings on the order of check (docs/DECISIONS.md), from answer 5 on.
 
 use crate::ask::*;
 use crate::history::Script;

@@ -40,7 +40,8 @@ fn spare_is_what_the_history_says() {
     }
 }
 
-/// Demand 3: "that spare shrinks only by a call of a thread whose label may write that container".
+/// Demand 3 (docs/DEMANDS.md): "that spare shrinks only by a call of a thread whose label may write that
+/// container".
 #[test]
 fn spare_shrinks_only_by_those_who_may_write() {
     for seed in 100..140 {
