@@ -1,6 +1,8 @@
 -- Laws of judging and doing a call.
 pub mod Prelude
 pub mod Begun
+pub mod Lookup
+pub mod Tested
 pub mod Conditions
 pub mod Unreference
 pub mod Storable

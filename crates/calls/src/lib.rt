@@ -21,6 +21,7 @@ pub enum Begun {
 }
 
 pub mod begin; // begin.rt: what every call asks first
+pub mod lookup; // lookup.rt: a container or an entry that a thread may read
 pub mod unreference; // unreference.rt: call 8
 pub mod arguments; // arguments.rt: labels and texts that are lent
 pub mod relabel; // relabel.rt: the caller takes labels
