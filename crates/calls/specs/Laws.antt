@@ -21,7 +21,6 @@ pub mod CreateSegment
 pub mod CreateContainer
 pub mod CreateGate
 pub mod CreateThread
-pub mod Opened
 pub mod LinkSegment
 pub mod Output
 pub mod LookBytes

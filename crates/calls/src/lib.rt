@@ -37,7 +37,6 @@ pub mod look; // look.rt: call 16
 pub mod create_container; // create_container.rt: call 4
 pub mod create_gate; // create_gate.rt: call 6
 pub mod create_thread; // create_thread.rt: call 7
-pub mod access; // access.rt: what calls 12, 13 and 14 share
 pub mod resize; // resize.rt: call 14
 pub mod amount; // amount.rt: a signed number of units
 pub mod move_quota; // move_quota.rt: call 11
