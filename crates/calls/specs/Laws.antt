@@ -1,6 +1,8 @@
 -- Laws of judging and doing a call.
 pub mod Prelude
 pub mod Begun
+pub mod Lookup
+pub mod Tested
 pub mod Conditions
 pub mod Unreference
 pub mod Storable
@@ -19,7 +21,6 @@ pub mod CreateSegment
 pub mod CreateContainer
 pub mod CreateGate
 pub mod CreateThread
-pub mod Opened
 pub mod LinkSegment
 pub mod Output
 pub mod LookBytes

@@ -1,6 +1,8 @@
 -- The calls.
 pub mod Outcome
 pub mod Begun
+pub mod Lookup
+pub mod Tested
 pub mod Unreference
 pub mod Relabel
 pub mod SetLabel

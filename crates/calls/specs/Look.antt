@@ -12,12 +12,12 @@ use Rattle.tables.specs.Layout.{View, view, rowCount}
 use Rattle.book.specs.declared.find.Entry.{Entry}
 use Rattle.book.specs.declared.find.Entry.the-variants as place
 use Rattle.book.specs.Book.{codeOf, labelOf, descriptionOf, onFound}
-use Rattle.book.specs.Find.{containerRow, entryPlace}
 use Rattle.calls.specs.Outcome.{verdictOn}
+use Rattle.calls.specs.Lookup.{openContainer, openEntry}
 
 -- "The pair (D, D) is an entry only for call 16."
-unfoldable pub lookPlace : View → ℕ → ℕ → Entry
-lookPlace v d o = cond (eqb o d) (onFound (containerRow v d) (λ c. place.In c c 0) place.Nothing) (entryPlace v d o)
+unfoldable pub openLook : View → ℕ → ℕ → ℕ → Entry
+openLook v t d o = cond (eqb o d) (onFound (openContainer v t d) (λ c. place.In c c 0) place.Nothing) (openEntry v t d o)
 
 -- "A thread's label is shown only if T may read it"
 abbrev pub shownB : ℕ → Label → Label → Bool

@@ -3,16 +3,16 @@ use Prim.Native.Nat.{ℕ, _+_, _*_, _≤_}
 use mathlib.Core.Bool.{Bool}
 use mathlib.Core.Path.{_≡_}
 use mathlib.Core.List.{List}
-use lib.Dec.{leb}
+use lib.Dec.{eqb, leb}
 use lib.ListN.{length}
-use Rattle.rules.specs.Kernel.{segmentCode, Verdict, refuse, must, blockSize}
-use Rattle.tables.specs.Layout.{view}
+use Rattle.rules.specs.Kernel.{segmentCode, Verdict, must, allHold, blockSize}
+use Rattle.tables.specs.Layout.{View, view}
 use Rattle.book.specs.declared.Found.the-variants.{At}
-use Rattle.book.specs.Book.{codeOf, lenOf, blockAt, rowOf, worldOf}
-use Rattle.calls.specs.declared.part.Part.{Part}
-use Rattle.calls.specs.declared.part.Part.the-variants as found
-use Rattle.calls.specs.Access.{accessOn}
-use Rattle.calls.specs.Begun.{Caller}
+use Rattle.book.specs.Book.{codeOf, lenOf, labelOf, blockAt, rowOf, worldOf}
+use Rattle.calls.specs.declared.Judged.{Judged}
+use Rattle.calls.specs.declared.Judged.the-variants.{Go}
+use Rattle.calls.specs.Access.{asked, accessOn}
+use Rattle.calls.specs.Tested.{tested}
 
 -- the rules' tests 5 to 11 of caller c, before what is granted
 abbrev pub partOn : List ℕ → List ℕ → ℕ → ℕ → ℕ → ℕ → ℕ → ℕ → Bool → Verdict → Verdict
@@ -28,16 +28,10 @@ pub record Lies (b : List ℕ) (s k f n p : ℕ) : Type 0 where
   pub within : blockSize * k + f + n ≤ lenOf (view b) at-row
   pub one : f + n ≤ blockSize
 
--- and whoever calls from row t passes
-pub record Reached (b : List ℕ) (t d s k f n : ℕ) (writes : Bool) (p : ℕ) : Type 0 where
-  pub lies : Lies b s k f n p
-  pub passes : (area : List ℕ) (c : ℕ) → Caller b area c t → (rest : Verdict) → partOn b area c d s k f n writes rest ≡ rest
-
--- whoever calls from row t is refused by m
-pub record Beyond (b : List ℕ) (t d s k f n : ℕ) (writes : Bool) (m : ℕ) : Type 0 where
-  pub later : 3 ≤ m
-  pub refused : (area : List ℕ) (c : ℕ) → Caller b area c t → (rest : Verdict) → partOn b area c d s k f n writes rest ≡ refuse m
-
-abbrev pub Parted : List ℕ → ℕ → ℕ → ℕ → ℕ → ℕ → ℕ → Bool → Part → Type 0
-Parted b t d s k f n writes (found.At p) = Reached b t d s k f n writes p
-Parted b t d s k f n writes (found.Shut m) = Beyond b t d s k f n writes m
+-- what is answered of n bytes from byte f of block k, of the thread at row t and the object at row r, from 6 on
+abbrev pub partAt : View → ℕ → ℕ → ℕ → ℕ → ℕ → Bool → Judged
+partAt v t r k f n writes =
+    tested (eqb (codeOf v r) segmentCode) 6
+    (tested (allHold (asked writes (labelOf v t) (labelOf v r))) 7
+    (tested (leb (blockSize * k + f + n) (lenOf v r)) 11
+    (Go (blockSize * blockAt v r k + f) 0 0)))

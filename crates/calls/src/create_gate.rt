@@ -13,6 +13,8 @@ use super::begin::begin;
 use super::creating::admit;
 use super::creating::cleared_allowed;
 use super::creating::make_in;
+use super::lookup::open_container;
+use book::Found;
 use book::alter::move_on;
 use book::find::next_of;
 use book::kinds::GATE;
@@ -69,8 +71,11 @@ fn judge(
     if !good_arguments(next_of(b), label, clearance, closure, description) {
         return Judged::No(4);
     }
+    let Found::At(container) = open_container(b, t, d) else {
+        return Judged::No(5);
+    };
     let allowed = cleared_allowed(b, t, label, clearance);
-    admit(b, t, d, PLACE, QUOTA, allowed)
+    admit(b, t, container, PLACE, QUOTA, allowed)
 }
 
 fn new_row(label: Label, clearance: Label, number: u64) -> NewRow

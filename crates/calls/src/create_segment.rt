@@ -17,6 +17,8 @@ use super::creating::admit;
 use super::creating::make_in;
 use super::creating::or_default;
 use super::creating::plain_allowed;
+use super::lookup::open_container;
+use book::Found;
 use book::alter::move_on;
 use book::find::next_of;
 use book::kinds::SEGMENT;
@@ -62,8 +64,18 @@ fn judge(
     if !good_arguments(next_of(b), label, description, quota) {
         return Judged::No(4);
     }
+    let Found::At(container) = open_container(b, t, d) else {
+        return Judged::No(5);
+    };
     let allowed = plain_allowed(b, t, label);
-    admit(b, t, d, PLACE, or_default(quota, DEFAULT_QUOTA), allowed)
+    admit(
+        b,
+        t,
+        container,
+        PLACE,
+        or_default(quota, DEFAULT_QUOTA),
+        allowed,
+    )
 }
 
 fn new_row(label: Label, quota: u64) -> NewRow

@@ -8,12 +8,10 @@ ghost use Rattle.rules.specs.Kernel.{allHold, orDefault};
 ghost use Rattle.tables.specs.Layout.{view, size, rowCount};
 ghost use Rattle.book.specs.Book.{nextOf, labelOf, clearanceOf};
 ghost use Rattle.book.specs.Make.{objectOf, createdIn, Creating};
-ghost use Rattle.book.specs.Sound.{Sound};
-ghost use Rattle.calls.specs.Creating.{plainConditions, clearedConditions, Admits};
+ghost use Rattle.book.specs.Sound.{Sound, Live};
+ghost use Rattle.calls.specs.Creating.{plainConditions, clearedConditions, admitted};
 use super::Judged;
-use book::Found;
 use book::find::clearance_of;
-use book::find::container_of;
 use book::find::label_of;
 use book::find::mask_of;
 use book::find::next_of;
@@ -22,7 +20,6 @@ use book::make::create;
 use book::units::spare_of;
 use labels::bytes::from_bytes;
 use labels::compare::flows;
-use labels::compare::may_read;
 use labels::compare::may_write;
 
 // "Otherwise 1 to 255."
@@ -75,21 +72,13 @@ pub fn cleared_allowed(b: &[u8], t: usize, label: &[u8], clearance: &[u8]) -> bo
     flows(most, clearance_of(b, t))
 }
 
-// Whether the thread at row t may create an object in the container d, by the tests from 5 on: `place` is the bit of the object's kind, and `allowed`
-// says whether its label conditions hold. Granted with the container's row.
-pub fn admit(b: &[u8], t: usize, d: u64, place: u64, quota: u64, allowed: bool) -> Judged
-    requires { ⌜ (length (now b) ≡ size) × Sound (view (now b)) × (t < rowCount) × (place < 64) ⌝ }
-    ensures { λ r. ⌜ Admits (now (b .entry)) t d place quota allowed r ⌝ }
+// Whether the thread at row t may create an object in the container at row c, by the tests from 7 on: `place` is the bit of the object's kind, and
+// `allowed` says whether its label conditions hold. Granted with the container's row.
+pub fn admit(b: &[u8], t: usize, c: usize, place: u64, quota: u64, allowed: bool) -> Judged
+    requires { ⌜ (length (now b) ≡ size) × Sound (view (now b)) × (t < rowCount) × Live (view (now b)) c × (place < 64) ⌝ }
+    ensures { λ r. ⌜ r ≡ admitted (view (now (b .entry))) t c place quota allowed ⌝ }
 {
-    let Found::At(c) = container_of(b, d) else {
-        return Judged::No(5);
-    };
-    let mine = label_of(b, t);
-    let theirs = label_of(b, c);
-    if !may_read(mine, theirs) {
-        return Judged::No(5);
-    }
-    if !may_write(mine, theirs) {
+    if !may_write(label_of(b, t), label_of(b, c)) {
         return Judged::No(7);
     }
     if !allowed {

@@ -14,13 +14,13 @@ use super::Begun;
 use super::Judged;
 use super::arguments::good_label;
 use super::begin::begin;
+use super::lookup::open_entry;
 use super::relabel::take_labels;
 use book::alter::move_on;
 use book::find::Entry;
 use book::find::clearance_of;
 use book::find::closure_into;
 use book::find::entry_number_of;
-use book::find::entry_of;
 use book::find::kind_of;
 use book::find::label_of;
 use book::find::next_of;
@@ -30,7 +30,6 @@ use labels::bytes::from_bytes;
 use labels::compare::floor_flows;
 use labels::compare::flows;
 use labels::compare::flows_join;
-use labels::compare::may_read;
 use tables::TEXT_SIZE;
 
 // Whether L_R, C_R, L_V and the output's length are as they should be.
@@ -116,15 +115,10 @@ fn judge(
         container,
         object,
         link,
-    } = entry_of(b, d, g)
+    } = open_entry(b, t, d, g)
     else {
         return Judged::No(5);
     };
-    let mine = label_of(b, t);
-    let theirs = label_of(b, container);
-    if !may_read(mine, theirs) {
-        return Judged::No(5);
-    }
     if kind_of(b, object) != GATE {
         return Judged::No(6);
     }

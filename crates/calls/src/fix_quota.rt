@@ -8,16 +8,15 @@ use super::Answer;
 use super::Begun;
 use super::Judged;
 use super::begin::begin;
+use super::lookup::open_entry;
 use book::alter::fix;
 use book::alter::move_on;
 use book::find::Entry;
-use book::find::entry_of;
 use book::find::kind_of;
 use book::find::label_of;
 use book::kinds::SEGMENT;
 use labels::Label;
 use labels::compare::flows;
-use labels::compare::may_read;
 use labels::compare::may_write;
 
 // "T may write D, T flows to O."
@@ -42,20 +41,14 @@ fn judge(b: &[u8], area: &[u8], caller: u64, d: u64, o: u64) -> Judged
         container,
         object,
         link,
-    } = entry_of(b, d, o)
+    } = open_entry(b, t, d, o)
     else {
         return Judged::No(5);
     };
-    let mine = label_of(b, t);
-    let holder = label_of(b, container);
-    if !may_read(mine, holder) {
-        return Judged::No(5);
-    }
     if kind_of(b, object) != SEGMENT {
         return Judged::No(6);
     }
-    let theirs = label_of(b, object);
-    if !allowed(mine, holder, theirs) {
+    if !allowed(label_of(b, t), label_of(b, container), label_of(b, object)) {
         return Judged::No(7);
     }
     Judged::Go(object, 0, 0)

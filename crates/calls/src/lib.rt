@@ -21,6 +21,7 @@ pub enum Begun {
 }
 
 pub mod begin; // begin.rt: what every call asks first
+pub mod lookup; // lookup.rt: a container or an entry that a thread may read
 pub mod unreference; // unreference.rt: call 8
 pub mod arguments; // arguments.rt: labels and texts that are lent
 pub mod relabel; // relabel.rt: the caller takes labels
@@ -36,7 +37,6 @@ pub mod look; // look.rt: call 16
 pub mod create_container; // create_container.rt: call 4
 pub mod create_gate; // create_gate.rt: call 6
 pub mod create_thread; // create_thread.rt: call 7
-pub mod access; // access.rt: what calls 12, 13 and 14 share
 pub mod resize; // resize.rt: call 14
 pub mod amount; // amount.rt: a signed number of units
 pub mod move_quota; // move_quota.rt: call 11

@@ -8,12 +8,12 @@ use super::Answer;
 use super::Begun;
 use super::Judged;
 use super::begin::begin;
+use super::lookup::open_container;
+use super::lookup::open_entry;
 use book::Found;
 use book::alter::move_on;
 use book::find::Entry;
 use book::find::clearance_of;
-use book::find::container_of;
-use book::find::entry_of;
 use book::find::fixed_of;
 use book::find::kind_of;
 use book::find::label_of;
@@ -24,7 +24,6 @@ use book::make::add_link;
 use book::units::spare_of;
 use labels::Label;
 use labels::compare::flows;
-use labels::compare::may_read;
 use labels::compare::may_write;
 
 // "T may write D; O flows to T's clearance."
@@ -49,25 +48,23 @@ fn judge(b: &[u8], area: &[u8], caller: u64, d1: u64, o: u64, d: u64) -> Judged
         container,
         object,
         link,
-    } = entry_of(b, d1, o)
+    } = open_entry(b, t, d1, o)
     else {
         return Judged::No(5);
     };
-    let Found::At(into) = container_of(b, d) else {
+    let Found::At(into) = open_container(b, t, d) else {
         return Judged::No(5);
     };
-    let mine = label_of(b, t);
-    if !may_read(mine, label_of(b, container)) {
-        return Judged::No(5);
-    }
-    let holder = label_of(b, into);
-    if !may_read(mine, holder) {
-        return Judged::No(5);
-    }
     if kind_of(b, object) != SEGMENT {
         return Judged::No(6);
     }
-    if !allowed(mine, clearance_of(b, t), holder, label_of(b, object)) {
+    let mine = label_of(b, t);
+    if !allowed(
+        mine,
+        clearance_of(b, t),
+        label_of(b, into),
+        label_of(b, object),
+    ) {
         return Judged::No(7);
     }
     if !fixed_of(b, object) {

@@ -9,19 +9,19 @@ ghost use Rattle.labels.specs.Core.{wordCount};
 ghost use Rattle.rules.specs.Kernel.{look, lookSize};
 ghost use Rattle.tables.specs.Layout.{view, size, rowCount};
 ghost use Rattle.book.specs.Book.{labelOf};
-ghost use Rattle.calls.specs.Look.{lookPlace, shownB, shownBytes, hiddenBytes, lookAt, ToLook};
+ghost use Rattle.calls.specs.Look.{openLook, shownB, shownBytes, hiddenBytes, lookAt, ToLook};
 ghost use Rattle.calls.specs.Outcome.{Done, Means, verdictOn, outputLeft};
 use super::Answer;
 use super::Begun;
 use super::Judged;
 use super::begin::begin;
+use super::lookup::open_container;
+use super::lookup::open_entry;
 use book::Found;
 use book::alter::move_on;
 use book::area::clear_all;
 use book::find::Entry;
-use book::find::container_of;
 use book::find::description_into;
-use book::find::entry_of;
 use book::find::kind_of;
 use book::find::label_of;
 use book::kinds::THREAD;
@@ -35,14 +35,14 @@ use tables::TEXT_SIZE;
 pub const LOOK_SIZE: usize = TEXT_SIZE + 8 + WORDS * 8;
 
 // "The pair (D, D) is an entry only for call 16."
-fn place_of(b: &[u8], d: u64, o: u64) -> Entry
-    requires { ⌜ length (now b) ≡ size ⌝ }
-    ensures { λ x. ⌜ x ≡ lookPlace (view (now (b .entry))) d o ⌝ }
+fn open_look(b: &[u8], t: usize, d: u64, o: u64) -> Entry
+    requires { ⌜ (length (now b) ≡ size) × (t < rowCount) ⌝ }
+    ensures { λ x. ⌜ x ≡ openLook (view (now (b .entry))) t d o ⌝ }
 {
     if o != d {
-        return entry_of(b, d, o);
+        return open_entry(b, t, d, o);
     }
-    let Found::At(container) = container_of(b, d) else {
+    let Found::At(container) = open_container(b, t, d) else {
         return Entry::Nothing;
     };
     Entry::In {
@@ -67,15 +67,10 @@ fn judge(b: &[u8], area: &[u8], caller: u64, d: u64, o: u64, n: usize) -> Judged
         container,
         object,
         link,
-    } = place_of(b, d, o)
+    } = open_look(b, t, d, o)
     else {
         return Judged::No(5);
     };
-    let mine = label_of(b, t);
-    let theirs = label_of(b, container);
-    if !may_read(mine, theirs) {
-        return Judged::No(5);
-    }
     Judged::Go(t, object, link)
 }
 

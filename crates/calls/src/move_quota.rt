@@ -19,11 +19,11 @@ use super::amount::moved;
 use super::amount::over_limit;
 use super::amount::units_of;
 use super::begin::begin;
+use super::lookup::open_entry;
 use book::alter::move_on;
 use book::alter::set_quota;
 use book::find::Entry;
 use book::find::clearance_of;
-use book::find::entry_of;
 use book::find::fixed_of;
 use book::find::kind_of;
 use book::find::label_of;
@@ -111,18 +111,15 @@ fn judge(b: &[u8], area: &[u8], caller: u64, d: u64, o: u64, units: Amount) -> J
         container,
         object,
         link,
-    } = entry_of(b, d, o)
+    } = open_entry(b, t, d, o)
     else {
         return Judged::No(5);
     };
-    let mine = label_of(b, t);
-    let holder = label_of(b, container);
-    if !may_read(mine, holder) {
-        return Judged::No(5);
-    }
     if !movable(kind_of(b, object)) {
         return Judged::No(6);
     }
+    let mine = label_of(b, t);
+    let holder = label_of(b, container);
     if !allowed(mine, clearance_of(b, t), holder, label_of(b, object), units) {
         return Judged::No(7);
     }

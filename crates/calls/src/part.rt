@@ -4,15 +4,21 @@ ghost use mathlib.Core.Path.{_≡_};
 ghost use Prim.Native.Nat.{_+_, _*_, _<_, _≤_};
 ghost use lib.Dec.{leb};
 ghost use lib.ListN.{length};
-ghost use Rattle.rules.specs.Kernel.{blockSize, maxBlock};
+ghost use Rattle.rules.specs.Kernel.{allHold, blockSize, maxBlock};
 ghost use Rattle.tables.specs.Layout.{view, size, rowCount};
 ghost use Rattle.book.specs.Book.{blockAt};
-ghost use Rattle.calls.specs.Part.{Parted};
-use super::access::Opened;
-use super::access::access;
+ghost use Rattle.calls.specs.Part.{partAt};
+ghost use Rattle.calls.specs.Access.{asked};
+use super::Judged;
 use book::Found;
 use book::blocks::block_of;
+use book::find::kind_of;
+use book::find::label_of;
 use book::find::len_of;
+use book::kinds::SEGMENT;
+use labels::Label;
+use labels::compare::may_read;
+use labels::compare::may_write;
 
 // "block k up to 253"
 const MAX_BLOCK: u64 = 253;
@@ -22,12 +28,6 @@ const BLOCK_SIZE: u64 = 64;
 
 // The same, as the way from one block of the data area to the next.
 const BLOCK_STEP: usize = 64;
-
-// Where the part begins in the data area, or the refusal's number.
-pub enum Part {
-    At(usize),
-    Shut(u64),
-}
 
 // "from + count ≤ 64", of any two numbers: their sum could wrap, so it is not taken.
 pub fn good_part(k: u64, from: u64, count: u64) -> bool
@@ -42,6 +42,16 @@ pub fn good_part(k: u64, from: u64, count: u64) -> bool
     count <= BLOCK_SIZE - from
 }
 
+// "S readable, or writable."
+fn allowed(mine: Label, theirs: Label, writes: bool) -> bool
+    ensures { λ r. ⌜ r ≡ allHold (asked writes mine theirs) ⌝ }
+{
+    if writes {
+        return may_write(mine, theirs);
+    }
+    may_read(mine, theirs)
+}
+
 // Where byte `from` of block k of the segment at row r lies. An empty part may stand behind the last block.
 fn place_of(b: &[u8], r: usize, k: usize, from: usize) -> usize
     requires { ⌜ (length (now b) ≡ size) × (r < rowCount) × (from ≤ blockSize) ⌝ }
@@ -53,26 +63,28 @@ fn place_of(b: &[u8], r: usize, k: usize, from: usize) -> usize
     BLOCK_STEP * x + from
 }
 
-// Where the thread at row t may read, or write, `count` bytes from byte `from` of block k of the segment s in d.
+// Where the thread at row t may read, or write, `count` bytes from byte `from` of block k of the object at row r, by the tests from 6 on. Granted with the
+// place in the data area.
 pub fn find_part(
     b: &[u8],
     t: usize,
-    d: u64,
-    s: u64,
+    r: usize,
     k: u64,
     from: u64,
     count: u64,
     writes: bool,
-) -> Part
-    requires { ⌜ (length (now b) ≡ size) × (t < rowCount) × (k ≤ maxBlock) × (from + count ≤ blockSize) ⌝ }
-    ensures { λ r. ⌜ Parted (now (b .entry)) t d s k from count writes r ⌝ }
+) -> Judged
+    requires { ⌜ (length (now b) ≡ size) × (t < rowCount) × (r < rowCount) × (k ≤ maxBlock) × (from + count ≤ blockSize) ⌝ }
+    ensures { λ x. ⌜ x ≡ partAt (view (now (b .entry))) t r k from count writes ⌝ }
 {
-    let row = match access(b, t, d, s, writes) {
-        Opened::Row(row) => row,
-        Opened::Shut(n) => return Part::Shut(n),
-    };
-    if len_of(b, row) < BLOCK_SIZE * k + from + count {
-        return Part::Shut(11);
+    if kind_of(b, r) != SEGMENT {
+        return Judged::No(6);
     }
-    Part::At(place_of(b, row, k as usize, from as usize))
+    if !allowed(label_of(b, t), label_of(b, r), writes) {
+        return Judged::No(7);
+    }
+    if len_of(b, r) < BLOCK_SIZE * k + from + count {
+        return Judged::No(11);
+    }
+    Judged::Go(place_of(b, r, k as usize, from as usize), 0, 0)
 }

@@ -5,10 +5,11 @@ ghost use Rattle.calls.specs.Read.{ToRead, LocatedAs, Shown};
 use super::Begun;
 use super::Judged;
 use super::begin::begin;
-use super::part::Part;
+use super::lookup::open_entry;
 use super::part::find_part;
 use super::part::good_part;
 use book::alter::move_on;
+use book::find::Entry;
 
 // The place and the count of the part that is read, or the refusal's number.
 pub enum Located {
@@ -36,10 +37,15 @@ fn judge(
     if !good_part(k, from, count) {
         return Judged::No(4);
     }
-    match find_part(b, t, d, s, k, from, count, false) {
-        Part::At(place) => Judged::Go(place, 0, 0),
-        Part::Shut(n) => Judged::No(n),
-    }
+    let Entry::In {
+        container,
+        object,
+        link,
+    } = open_entry(b, t, d, s)
+    else {
+        return Judged::No(5);
+    };
+    find_part(b, t, object, k, from, count, false)
 }
 
 // The call as numbers: where the part lies. The next number moves on.

@@ -5,12 +5,16 @@ ghost use Rattle.calls.specs.Resize.{ToResize};
 use super::Answer;
 use super::Begun;
 use super::Judged;
-use super::access::Opened;
-use super::access::access;
 use super::begin::begin;
+use super::lookup::open_entry;
 use book::alter::move_on;
+use book::find::Entry;
+use book::find::kind_of;
+use book::find::label_of;
 use book::find::quota_of;
+use book::kinds::SEGMENT;
 use book::units::units;
+use labels::compare::may_write;
 
 // "length up to 16,256"
 const MAX_LENGTH: u64 = 16256;
@@ -26,14 +30,24 @@ fn judge(b: &[u8], area: &[u8], caller: u64, d: u64, s: u64, length: u64) -> Jud
     if MAX_LENGTH < length {
         return Judged::No(4);
     }
-    let row = match access(b, t, d, s, true) {
-        Opened::Row(row) => row,
-        Opened::Shut(k) => return Judged::No(k),
+    let Entry::In {
+        container,
+        object,
+        link,
+    } = open_entry(b, t, d, s)
+    else {
+        return Judged::No(5);
     };
-    if quota_of(b, row) < units(length) {
+    if kind_of(b, object) != SEGMENT {
+        return Judged::No(6);
+    }
+    if !may_write(label_of(b, t), label_of(b, object)) {
+        return Judged::No(7);
+    }
+    if quota_of(b, object) < units(length) {
         return Judged::No(13);
     }
-    Judged::Go(row, 0, 0)
+    Judged::Go(object, 0, 0)
 }
 
 pub fn resize(b: &mut [u8], area: &mut [u8], caller: u64, d: u64, s: u64, length: u64) -> Answer

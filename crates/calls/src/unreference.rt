@@ -6,12 +6,11 @@ use super::Answer;
 use super::Begun;
 use super::Judged;
 use super::begin::begin;
+use super::lookup::open_entry;
 use book::alter::move_on;
 use book::cut::cut_entry;
 use book::find::Entry;
-use book::find::entry_of;
 use book::find::label_of;
-use labels::compare::may_read;
 use labels::compare::may_write;
 
 fn judge(b: &[u8], area: &[u8], caller: u64, d: u64, o: u64) -> Judged
@@ -26,16 +25,11 @@ fn judge(b: &[u8], area: &[u8], caller: u64, d: u64, o: u64) -> Judged
         container,
         object,
         link,
-    } = entry_of(b, d, o)
+    } = open_entry(b, t, d, o)
     else {
         return Judged::No(5);
     };
-    let mine = label_of(b, t);
-    let theirs = label_of(b, container);
-    if !may_read(mine, theirs) {
-        return Judged::No(5);
-    }
-    if !may_write(mine, theirs) {
+    if !may_write(label_of(b, t), label_of(b, container)) {
         return Judged::No(7);
     }
     Judged::Go(link, 0, 0)

@@ -6,11 +6,12 @@ use super::Answer;
 use super::Begun;
 use super::Judged;
 use super::begin::begin;
-use super::part::Part;
+use super::lookup::open_entry;
 use super::part::find_part;
 use super::part::good_part;
 use book::alter::move_on;
 use book::area::write_area;
+use book::find::Entry;
 
 fn judge(
     b: &[u8],
@@ -36,10 +37,15 @@ fn judge(
     if bytes.len() as u64 != count {
         return Judged::No(4);
     }
-    match find_part(b, t, d, s, k, from, count, true) {
-        Part::At(place) => Judged::Go(place, 0, 0),
-        Part::Shut(n) => Judged::No(n),
-    }
+    let Entry::In {
+        container,
+        object,
+        link,
+    } = open_entry(b, t, d, s)
+    else {
+        return Judged::No(5);
+    };
+    find_part(b, t, object, k, from, count, true)
 }
 
 pub fn write(

@@ -15,7 +15,7 @@ use Rattle.labels.specs.Core.Bytes.{labelOf-length}
 use Rattle.labels.specs.Core.Formed.{and-l, and-r}
 use Rattle.rules.specs.Kernel.{containerCode, maskWidth, kindCode, allHold, flow, judge, goodArguments, goodLabel, goodText, maxMask, maxQuota, textSize, orDefault, containerDefault, containerOf, createContainer}
 use Rattle.tables.specs.Layout.{view}
-use Rattle.book.specs.declared.Found.the-variants.{At}
+use Rattle.book.specs.declared.Found.the-variants.{At, Nothing}
 use Rattle.book.specs.declared.make.NewRow.{NewRow}
 use Rattle.book.specs.Book.{nextOf, labelOf, clearanceOf, maskOf, worldOf}
 use Rattle.book.specs.Find.{containerRow}
@@ -26,11 +26,12 @@ use Rattle.calls.specs.declared.Judged.{Judged}
 use Rattle.calls.specs.declared.Judged.the-variants.{No}
 use Rattle.calls.specs.Outcome.{Ready}
 use Rattle.calls.specs.Begun.{Caller}
-use Rattle.calls.specs.Creating.{plainConditions, Admits}
+use Rattle.calls.specs.Lookup.{openContainer}
+use Rattle.calls.specs.Creating.{plainConditions, admitted}
 use Rattle.calls.specs.CreateContainer.{newContainer, containerRowOf, ContainerJudged}
 use Rattle.calls.specs.Laws.Arguments.{good-long, good-default, good-text-long}
 use Rattle.calls.specs.Laws.Begun.{caller-four, caller-label, caller-clearance}
-use Rattle.calls.specs.Laws.Creating.{decided, default-most, mask-at}
+use Rattle.calls.specs.Laws.Creating.{create-five, create-judged, default-most, mask-at}
 use Rattle.calls.specs.Laws.Prelude.{book-sound}
 
 module _ (b area l s : List ℕ) (c t d m q : ℕ) (by : Caller b area c t) where
@@ -41,21 +42,32 @@ module _ (b area l s : List ℕ) (c t d m q : ℕ) (by : Caller b area c t) wher
   container-four n e bad =
       (caller-four b area c t by (createContainer d l s m q) (subst (λ (k : ℕ). goodArguments k (createContainer d l s m q) ≡ false) e bad), omega arith, by .ready)
 
-  -- good ones: what is shared decides
-  pub container-judged : (n : ℕ) → n ≡ nextOf (view b) → (goodLabel n false l && (goodText s && (leb m maxMask && leb q maxQuota))) ≡ true
-      → (allowed : Bool) → allowed ≡ allHold (plainConditions (labelOf (view b) t) (clearanceOf (view b) t) (core.labelOf l))
-      → (units : ℕ) → units ≡ orDefault q containerDefault → (r : Judged) → Admits b t d (containerCode - 1) units allowed r → ContainerJudged b area c d l s m q r
-  unfolding goodArguments judge containerOf kindCode
-  container-judged n g good allowed e units f r h =
-      decided b area c t by (createContainer d l s m q) d (newContainer (worldOf (view b) area) d l s m q)
-      (flow (core.labelOf l) ((worldOf (view b) area .obj c) .clearance) ∷ [])
-      (subst (λ (k : ℕ). goodArguments k (createContainer d l s m q) ≡ true) g good) refl r
-      (h area c (newContainer (worldOf (view b) area) d l s m q) (flow (core.labelOf l) ((worldOf (view b) area .obj c) .clearance) ∷ []) by
-      (record {
-        bit = refl;
-        units = sym f;
-        conditions = ap₂ (λ (u k : Label). allHold (plainConditions u k (core.labelOf l))) (caller-label b area c t by) (caller-clearance b area c t by) ∙ sym e;
-      }))
+  module _ (n : ℕ) (g : n ≡ nextOf (view b)) (good : (goodLabel n false l && (goodText s && (leb m maxMask && leb q maxQuota))) ≡ true) where
+    arguments : goodArguments (nextOf (view b)) (createContainer d l s m q) ≡ true
+    unfolding goodArguments
+    arguments = subst (λ (k : ℕ). goodArguments k (createContainer d l s m q) ≡ true) g good
+
+    -- no container that is open: 5
+    pub container-five : openContainer (view b) t d ≡ Nothing → ContainerJudged b area c d l s m q (No 5)
+    unfolding judge
+    container-five =
+        create-five b area c t by (createContainer d l s m q) d (newContainer (worldOf (view b) area) d l s m q)
+        (flow (core.labelOf l) ((worldOf (view b) area .obj c) .clearance) ∷ []) arguments refl
+
+    -- one that is, at row `at`: what is shared decides
+    pub container-judged : (at : ℕ) → openContainer (view b) t d ≡ At at
+        → (allowed : Bool) → allowed ≡ allHold (plainConditions (labelOf (view b) t) (clearanceOf (view b) t) (core.labelOf l))
+        → (units : ℕ) → units ≡ orDefault q containerDefault → (r : Judged) → r ≡ admitted (view b) t at (containerCode - 1) units allowed → ContainerJudged b area c d l s m q r
+    unfolding judge containerOf kindCode
+    container-judged at o allowed e units f r h =
+        create-judged b area c t by (createContainer d l s m q) d (newContainer (worldOf (view b) area) d l s m q)
+        (flow (core.labelOf l) ((worldOf (view b) area .obj c) .clearance) ∷ []) arguments refl at o (containerCode - 1) units allowed
+        (record {
+          bit = refl;
+          units = sym f;
+          conditions = ap₂ (λ (u k : Label). allHold (plainConditions u k (core.labelOf l))) (caller-label b area c t by) (caller-clearance b area c t by) ∙ sym e;
+        })
+        r h
 
 -- masks joined are a mask
 pub masks-joined : (m n : ℕ) → m ≤ maxMask → n ≤ maxMask → bitOr m n < 256

@@ -14,6 +14,7 @@ use Rattle.labels.specs.Core.Bytes.{labelOf-length}
 use Rattle.labels.specs.Core.Formed.{and-l, and-r}
 use Rattle.rules.specs.Kernel.{segmentCode, kindCode, allHold, flow, judge, goodArguments, goodLabel, goodText, maxQuota, textSize, orDefault, segmentDefault, segmentOf, createSegment}
 use Rattle.tables.specs.Layout.{view}
+use Rattle.book.specs.declared.Found.the-variants.{At, Nothing}
 use Rattle.book.specs.declared.make.NewRow.{NewRow}
 use Rattle.book.specs.Book.{nextOf, labelOf, clearanceOf, worldOf}
 use Rattle.book.specs.Make.{objectOf, Handed}
@@ -21,11 +22,12 @@ use Rattle.book.specs.Laws.Handed.{segment-handed}
 use Rattle.calls.specs.declared.Judged.{Judged}
 use Rattle.calls.specs.declared.Judged.the-variants.{No}
 use Rattle.calls.specs.Begun.{Caller}
-use Rattle.calls.specs.Creating.{plainConditions, Admits}
+use Rattle.calls.specs.Lookup.{openContainer}
+use Rattle.calls.specs.Creating.{plainConditions, admitted}
 use Rattle.calls.specs.CreateSegment.{newSegment, segmentRow, SegmentJudged}
 use Rattle.calls.specs.Laws.Arguments.{good-long, good-default, good-text-long}
 use Rattle.calls.specs.Laws.Begun.{caller-four, caller-label, caller-clearance}
-use Rattle.calls.specs.Laws.Creating.{decided, default-most}
+use Rattle.calls.specs.Laws.Creating.{create-five, create-judged, default-most}
 
 module _ (b area l s : List ℕ) (c t d q : ℕ) (by : Caller b area c t) where
   -- bad arguments: 4
@@ -34,20 +36,32 @@ module _ (b area l s : List ℕ) (c t d q : ℕ) (by : Caller b area c t) where
   segment-four n e bad =
       (caller-four b area c t by (createSegment d l s q) (subst (λ (m : ℕ). goodArguments m (createSegment d l s q) ≡ false) e bad), omega arith, by .ready)
 
-  -- good ones: what is shared decides
-  pub segment-judged : (n : ℕ) → n ≡ nextOf (view b) → (goodLabel n false l && (goodText s && leb q maxQuota)) ≡ true
-      → (allowed : Bool) → allowed ≡ allHold (plainConditions (labelOf (view b) t) (clearanceOf (view b) t) (core.labelOf l))
-      → (units : ℕ) → units ≡ orDefault q segmentDefault → (r : Judged) → Admits b t d (segmentCode - 1) units allowed r → SegmentJudged b area c d l s q r
-  unfolding goodArguments judge segmentOf kindCode
-  segment-judged n g good allowed e units f r h =
-      decided b area c t by (createSegment d l s q) d (newSegment l s q) (flow (core.labelOf l) ((worldOf (view b) area .obj c) .clearance) ∷ [])
-      (subst (λ (m : ℕ). goodArguments m (createSegment d l s q) ≡ true) g good) refl r
-      (h area c (newSegment l s q) (flow (core.labelOf l) ((worldOf (view b) area .obj c) .clearance) ∷ []) by
-      (record {
-        bit = refl;
-        units = sym f;
-        conditions = ap₂ (λ (m k : Label). allHold (plainConditions m k (core.labelOf l))) (caller-label b area c t by) (caller-clearance b area c t by) ∙ sym e;
-      }))
+  module _ (n : ℕ) (g : n ≡ nextOf (view b)) (good : (goodLabel n false l && (goodText s && leb q maxQuota)) ≡ true) where
+    arguments : goodArguments (nextOf (view b)) (createSegment d l s q) ≡ true
+    unfolding goodArguments
+    arguments = subst (λ (m : ℕ). goodArguments m (createSegment d l s q) ≡ true) g good
+
+    -- no container that is open: 5
+    pub segment-five : openContainer (view b) t d ≡ Nothing → SegmentJudged b area c d l s q (No 5)
+    unfolding judge
+    segment-five =
+        create-five b area c t by (createSegment d l s q) d (newSegment l s q)
+        (flow (core.labelOf l) ((worldOf (view b) area .obj c) .clearance) ∷ []) arguments refl
+
+    -- one that is, at row `at`: what is shared decides
+    pub segment-judged : (at : ℕ) → openContainer (view b) t d ≡ At at
+        → (allowed : Bool) → allowed ≡ allHold (plainConditions (labelOf (view b) t) (clearanceOf (view b) t) (core.labelOf l))
+        → (units : ℕ) → units ≡ orDefault q segmentDefault → (r : Judged) → r ≡ admitted (view b) t at (segmentCode - 1) units allowed → SegmentJudged b area c d l s q r
+    unfolding judge segmentOf kindCode
+    segment-judged at o allowed e units f r h =
+        create-judged b area c t by (createSegment d l s q) d (newSegment l s q)
+        (flow (core.labelOf l) ((worldOf (view b) area .obj c) .clearance) ∷ []) arguments refl at o (segmentCode - 1) units allowed
+        (record {
+          bit = refl;
+          units = sym f;
+          conditions = ap₂ (λ (m k : Label). allHold (plainConditions m k (core.labelOf l))) (caller-label b area c t by) (caller-clearance b area c t by) ∙ sym e;
+        })
+        r h
 
 module _ (n : ℕ) (l s : List ℕ) (d q : ℕ) (good : goodArguments n (createSegment d l s q) ≡ true) where
   label-good : goodLabel n false l ≡ true

@@ -1,5 +1,5 @@
 -- Call 15: its arguments, its conditions, and the verdict at each way out of its judging.
-use Prim.Native.Nat.{ℕ, _<_}
+use Prim.Native.Nat.{ℕ}
 use native.Mathlib.Omega.{arith}
 use mathlib.Core.Bool.{Bool, true, false, _&&_}
 use mathlib.Core.Path.{_≡_, sym, ap, ap₂, _∙_}
@@ -8,22 +8,22 @@ use lib.Dec.{eqb}
 use borrow.Author.Tests.{eq-eqb, ne-eqb, eqb-true}
 use Rattle.labels.specs.declared.Label.{Label}
 use Rattle.labels.specs.declared.Rule.the-variants.{FloorFlows, FlowsJoin}
-use Rattle.labels.specs.Core.{compareB, flows, mayRead}
+use Rattle.labels.specs.Core.{compareB, flows}
 use Rattle.labels.specs.Core as label
 use Rattle.labels.specs.Core.Formed.{and-l, and-r}
 use Rattle.rules.specs.Kernel.{gateCode, Obj, refuse, grant, must, judge, entry, isGate, allHold, flow, floorFlow, flowJoin, enterGate, alter, relabel, goodLabel, goodArguments, textSize}
-use Rattle.tables.specs.Layout.{view, rowCount}
+use Rattle.tables.specs.Layout.{view}
 use Rattle.book.specs.declared.find.Entry.the-variants as place
 use Rattle.book.specs.Book.{nextOf, codeOf, labelOf, clearanceOf, worldOf}
-use Rattle.book.specs.Find.{entryPlace}
-use Rattle.book.specs.Laws.Find.{Entered, entry-found, entry-opens, entry-none}
-use Rattle.book.specs.Laws.Tie.{object-label, object-clearance, object-gate, object-entry, object-closure}
+use Rattle.book.specs.Laws.Tie.{object-clearance, object-gate, object-entry, object-closure}
 use Rattle.calls.specs.Outcome.{verdictOn}
 use Rattle.calls.specs.Begun.{Caller}
+use Rattle.calls.specs.Lookup.{openEntry}
 use Rattle.calls.specs.EnterGate.{goodGate, gateConditions, ToEnter}
 use Rattle.calls.specs.Laws.AllHold.{all-failed, all-passed, all-last, flow-holds, floor-flow-holds, flow-join-holds}
 use Rattle.calls.specs.Laws.Arguments.{good-long, good-default}
-use Rattle.calls.specs.Laws.Begun.{caller-four, caller-judged, caller-label, caller-clearance, caller-low, placed-by-caller}
+use Rattle.calls.specs.Laws.Begun.{caller-four, caller-judged, caller-label, caller-clearance, caller-low}
+use Rattle.calls.specs.Laws.Entry.{no-entry, is-entry, object-below, object-is, its-label}
 use Rattle.calls.specs.Laws.Prelude.{must-passed, must-failed}
 use Rattle.calls.specs.Laws.Relabel.{caller-row}
 
@@ -135,76 +135,54 @@ module _ (b area : List ℕ) (c t d g : ℕ) (lr cr lv : List ℕ) (n : ℕ) (by
     judged = caller-judged b area c t by (enterGate d g lr cr lv n) good
 
     -- no entry: 5
-    pub gate-none : entryPlace (view b) d g ≡ place.Nothing → verdictOn b area c (enterGate d g lr cr lv n) ≡ refuse 5
-    gate-none e = judged ∙ must-failed _ 5 _ (entry-none (view b) area (worldOf (view b) area .obj c) d g (placed-by-caller b area c t by) e)
+    pub gate-none : openEntry (view b) t d g ≡ place.Nothing → verdictOn b area c (enterGate d g lr cr lv n) ≡ refuse 5
+    gate-none e = judged ∙ must-failed _ 5 _ (no-entry b area c t d g by e)
 
-    module _ (k r l : ℕ) (e : entryPlace (view b) d g ≡ place.In k r l) where
-      in-it : Entered (view b) area d g k r l
-      in-it = entry-found (view b) d g area k r l e
+    module _ (k r l : ℕ) (e : openEntry (view b) t d g ≡ place.In k r l) where
+      is-gate : isGate ((worldOf (view b) area .obj g) .kind) ≡ eqb (codeOf (view b) r) gateCode
+      is-gate = ap (λ (x : Obj). isGate (x .kind)) (object-is b area c t d g by k r l e) ∙ object-gate (view b) area r
 
-      pub gate-container-low : k < rowCount
-      gate-container-low = in-it .container-live .low
+      -- no gate: 6
+      pub gate-six : (codeOf (view b) r ≡ gateCode → ⊥) → verdictOn b area c (enterGate d g lr cr lv n) ≡ refuse 6
+      gate-six ne = judged ∙ (must-passed _ 5 _ (is-entry b area c t d g by k r l e) ∙ must-failed _ 6 _ (is-gate ∙ ne-eqb (codeOf (view b) r) gateCode ne))
 
-      pub gate-object-low : r < rowCount
-      gate-object-low = in-it .object-live .low
+      module _ (code : codeOf (view b) r ≡ gateCode) where
+        its-clearance : (worldOf (view b) area .obj g) .clearance ≡ clearanceOf (view b) r
+        its-clearance = ap (λ (x : Obj). x .clearance) (object-is b area c t d g by k r l e) ∙ object-clearance (view b) area r (λ z. omega (arith, code)) (omega (arith, code))
 
-      opened : entry (worldOf (view b) area) (worldOf (view b) area .obj c) d g ≡ mayRead (labelOf (view b) t) (labelOf (view b) k)
-      opened =
-          entry-opens (view b) area (worldOf (view b) area .obj c) d g k r l e
-          ∙ ap (λ (x : Label). mayRead x (labelOf (view b) k)) (caller-label b area c t by)
+        asked : allHold (gateConditions ((worldOf (view b) area .obj c) .label) ((worldOf (view b) area .obj c) .clearance) ((worldOf (view b) area .obj g) .label) ((worldOf (view b) area .obj g) .clearance) (label.labelOf lr) (label.labelOf cr) (label.labelOf lv))
+            ≡ allHold (gateConditions (labelOf (view b) t) (clearanceOf (view b) t) (labelOf (view b) r) (clearanceOf (view b) r) (label.labelOf lr) (label.labelOf cr) (label.labelOf lv))
+        asked = λ i. allHold (gateConditions (caller-label b area c t by i) (caller-clearance b area c t by i) (its-label b area c t d g by k r l e i) (its-clearance i) (label.labelOf lr) (label.labelOf cr) (label.labelOf lv))
 
-      -- an unreadable container: 5
-      pub gate-shut : mayRead (labelOf (view b) t) (labelOf (view b) k) ≡ false → verdictOn b area c (enterGate d g lr cr lv n) ≡ refuse 5
-      gate-shut f = judged ∙ must-failed _ 5 _ (opened ∙ f)
+        from-seven : verdictOn b area c (enterGate d g lr cr lv n)
+            ≡ must (allHold (gateConditions ((worldOf (view b) area .obj c) .label) ((worldOf (view b) area .obj c) .clearance) ((worldOf (view b) area .obj g) .label) ((worldOf (view b) area .obj g) .clearance) (label.labelOf lr) (label.labelOf cr) (label.labelOf lv))) 7
+            (grant ((worldOf (view b) area .obj g) .entry) ((worldOf (view b) area .obj g) .closure) (alter c (relabel (label.labelOf lr) (label.labelOf cr))))
+        from-seven = judged ∙ (must-passed _ 5 _ (is-entry b area c t d g by k r l e) ∙ must-passed _ 6 _ (is-gate ∙ eq-eqb (codeOf (view b) r) gateCode code))
 
-      module _ (f : mayRead (labelOf (view b) t) (labelOf (view b) k) ≡ true) where
-        is-gate : isGate ((worldOf (view b) area .obj g) .kind) ≡ eqb (codeOf (view b) r) gateCode
-        is-gate = ap (λ (x : Obj). isGate (x .kind)) (in-it .object-object) ∙ object-gate (view b) area r
+        -- a condition fails: 7
+        pub gate-seven : allHold (gateConditions (labelOf (view b) t) (clearanceOf (view b) t) (labelOf (view b) r) (clearanceOf (view b) r) (label.labelOf lr) (label.labelOf cr) (label.labelOf lv)) ≡ false
+            → verdictOn b area c (enterGate d g lr cr lv n) ≡ refuse 7
+        gate-seven q = from-seven ∙ must-failed _ 7 _ (asked ∙ q)
 
-        -- no gate: 6
-        pub gate-six : (codeOf (view b) r ≡ gateCode → ⊥) → verdictOn b area c (enterGate d g lr cr lv n) ≡ refuse 6
-        gate-six ne = judged ∙ (must-passed _ 5 _ (opened ∙ f) ∙ must-failed _ 6 _ (is-gate ∙ ne-eqb (codeOf (view b) r) gateCode ne))
-
-        module _ (code : codeOf (view b) r ≡ gateCode) where
-          its-clearance : (worldOf (view b) area .obj g) .clearance ≡ clearanceOf (view b) r
-          its-clearance = ap (λ (x : Obj). x .clearance) (in-it .object-object) ∙ object-clearance (view b) area r (λ z. omega (arith, code)) (omega (arith, code))
-
-          its-label : (worldOf (view b) area .obj g) .label ≡ labelOf (view b) r
-          its-label = ap (λ (x : Obj). x .label) (in-it .object-object) ∙ object-label (view b) area r
-
-          asked : allHold (gateConditions ((worldOf (view b) area .obj c) .label) ((worldOf (view b) area .obj c) .clearance) ((worldOf (view b) area .obj g) .label) ((worldOf (view b) area .obj g) .clearance) (label.labelOf lr) (label.labelOf cr) (label.labelOf lv))
-              ≡ allHold (gateConditions (labelOf (view b) t) (clearanceOf (view b) t) (labelOf (view b) r) (clearanceOf (view b) r) (label.labelOf lr) (label.labelOf cr) (label.labelOf lv))
-          asked = λ i. allHold (gateConditions (caller-label b area c t by i) (caller-clearance b area c t by i) (its-label i) (its-clearance i) (label.labelOf lr) (label.labelOf cr) (label.labelOf lv))
-
-          from-seven : verdictOn b area c (enterGate d g lr cr lv n)
-              ≡ must (allHold (gateConditions ((worldOf (view b) area .obj c) .label) ((worldOf (view b) area .obj c) .clearance) ((worldOf (view b) area .obj g) .label) ((worldOf (view b) area .obj g) .clearance) (label.labelOf lr) (label.labelOf cr) (label.labelOf lv))) 7
-              (grant ((worldOf (view b) area .obj g) .entry) ((worldOf (view b) area .obj g) .closure) (alter c (relabel (label.labelOf lr) (label.labelOf cr))))
-          from-seven = judged ∙ (must-passed _ 5 _ (opened ∙ f) ∙ must-passed _ 6 _ (is-gate ∙ eq-eqb (codeOf (view b) r) gateCode code))
-
-          -- a condition fails: 7
-          pub gate-seven : allHold (gateConditions (labelOf (view b) t) (clearanceOf (view b) t) (labelOf (view b) r) (clearanceOf (view b) r) (label.labelOf lr) (label.labelOf cr) (label.labelOf lv)) ≡ false
-              → verdictOn b area c (enterGate d g lr cr lv n) ≡ refuse 7
-          gate-seven q = from-seven ∙ must-failed _ 7 _ (asked ∙ q)
-
-          -- granted
-          pub to-enter : allHold (gateConditions (labelOf (view b) t) (clearanceOf (view b) t) (labelOf (view b) r) (clearanceOf (view b) r) (label.labelOf lr) (label.labelOf cr) (label.labelOf lv)) ≡ true
-              → ToEnter b area c d g lr cr lv n t r l
-          to-enter q =
-              record {
-                relabels =
-                    record {
-                      granted =
-                          from-seven ∙ (must-passed _ 7 _ (asked ∙ q)
-                          ∙ ap₂ (λ (x : ℕ) (y : List ℕ). grant x y (alter c (relabel (label.labelOf lr) (label.labelOf cr))))
-                          (ap (λ (x : Obj). x .entry) (in-it .object-object) ∙ object-entry (view b) area r code)
-                          (ap (λ (x : Obj). x .closure) (in-it .object-object) ∙ object-closure (view b) area r code));
-                      row = caller-row b area c t by;
-                      low = caller-low b area c t by;
-                      label-fits = good-default (nextOf (view b)) true lr (label-good (nextOf (view b)) lr cr lv n good);
-                      clearance-fits = good-default (nextOf (view b)) false cr (clearance-good (nextOf (view b)) lr cr lv n good);
-                    };
-                sized = output-good (nextOf (view b)) lr cr lv n good;
-                gate-low = gate-object-low;
-                label-long = good-long (nextOf (view b)) true lr (label-good (nextOf (view b)) lr cr lv n good);
-                clearance-long = good-long (nextOf (view b)) false cr (clearance-good (nextOf (view b)) lr cr lv n good);
-              }
+        -- granted
+        pub to-enter : allHold (gateConditions (labelOf (view b) t) (clearanceOf (view b) t) (labelOf (view b) r) (clearanceOf (view b) r) (label.labelOf lr) (label.labelOf cr) (label.labelOf lv)) ≡ true
+            → ToEnter b area c d g lr cr lv n t r l
+        to-enter q =
+            record {
+              relabels =
+                  record {
+                    granted =
+                        from-seven ∙ (must-passed _ 7 _ (asked ∙ q)
+                        ∙ ap₂ (λ (x : ℕ) (y : List ℕ). grant x y (alter c (relabel (label.labelOf lr) (label.labelOf cr))))
+                        (ap (λ (x : Obj). x .entry) (object-is b area c t d g by k r l e) ∙ object-entry (view b) area r code)
+                        (ap (λ (x : Obj). x .closure) (object-is b area c t d g by k r l e) ∙ object-closure (view b) area r code));
+                    row = caller-row b area c t by;
+                    low = caller-low b area c t by;
+                    label-fits = good-default (nextOf (view b)) true lr (label-good (nextOf (view b)) lr cr lv n good);
+                    clearance-fits = good-default (nextOf (view b)) false cr (clearance-good (nextOf (view b)) lr cr lv n good);
+                  };
+              sized = output-good (nextOf (view b)) lr cr lv n good;
+              gate-low = object-below b area c t d g by k r l e;
+              label-long = good-long (nextOf (view b)) true lr (label-good (nextOf (view b)) lr cr lv n good);
+              clearance-long = good-long (nextOf (view b)) false cr (clearance-good (nextOf (view b)) lr cr lv n good);
+            }

@@ -5,20 +5,19 @@ use mathlib.Core.Path.{_≡_, refl, sym, ap, ap₂, _∙_}
 use mathlib.Core.List.{List, [], _∷_, _++_}
 use lib.ListN.{length}
 use Rattle.labels.specs.declared.Label.{Label}
-use Rattle.labels.specs.Core.{mayRead}
 use Rattle.rules.specs.Kernel.{segmentCode, refuse, grant, must, judge, entry, isSegment, allHold, writing, flow, fixQuota, alter, fix, goodArguments, lastNumber}
 use Rattle.tables.specs.Layout.{view}
 use Rattle.book.specs.Book.{nextOf, codeOf, labelOf, worldOf}
 use Rattle.book.specs.Enact.{movedOn, fixedAt, alteredView, alteredArea}
 use Rattle.book.specs.declared.find.Entry.the-variants as place
-use Rattle.book.specs.Find.{entryPlace}
 use Rattle.book.specs.Laws.Enacted.{alter-view, alter-area}
 use Rattle.calls.specs.declared.Answer.the-variants.{Granted}
 use Rattle.calls.specs.Outcome.{verdictOn, Ready, Done}
 use Rattle.calls.specs.Begun.{Caller}
+use Rattle.calls.specs.Lookup.{openEntry}
 use Rattle.calls.specs.FixQuota.{ToFix}
 use Rattle.calls.specs.Laws.Begun.{caller-judged, caller-label}
-use Rattle.calls.specs.Laws.Entry.{no-entry, opened-by, object-below, object-found, segment-here, no-segment, container-label, its-label}
+use Rattle.calls.specs.Laws.Entry.{no-entry, is-entry, object-below, object-found, segment-here, no-segment, container-label, its-label}
 use Rattle.calls.specs.Laws.Prelude.{must-passed, must-failed, done-granted}
 
 module _ (b area : List ℕ) (c t d o : ℕ) (by : Caller b area c t) where
@@ -31,50 +30,46 @@ module _ (b area : List ℕ) (c t d o : ℕ) (by : Caller b area c t) where
   judged = caller-judged b area c t by (fixQuota d o) refl
 
   -- no entry: 5
-  pub none-five : entryPlace (view b) d o ≡ place.Nothing → verdictOn b area c (fixQuota d o) ≡ refuse 5
+  pub none-five : openEntry (view b) t d o ≡ place.Nothing → verdictOn b area c (fixQuota d o) ≡ refuse 5
   none-five e = judged ∙ must-failed _ 5 _ (no-entry b area c t d o by e)
 
-  -- x, y and z are the labels of the caller, the container and the object
-  module _ (k r l : ℕ) (e : entryPlace (view b) d o ≡ place.In k r l) (x y : Label) (ex : x ≡ labelOf (view b) t) (ey : y ≡ labelOf (view b) k) where
-    -- an unreadable container: 5
-    pub shut-five : mayRead x y ≡ false → verdictOn b area c (fixQuota d o) ≡ refuse 5
-    shut-five f = judged ∙ must-failed _ 5 _ (opened-by b area c t d o by k r l e x y ex ey ∙ f)
+  -- n is the code of the object's kind
+  module _ (k r l : ℕ) (e : openEntry (view b) t d o ≡ place.In k r l) (n : ℕ) (en : n ≡ codeOf (view b) r) where
+    from-six : verdictOn b area c (fixQuota d o)
+        ≡ must (isSegment ((worldOf (view b) area .obj o) .kind)) 6
+        (must (allHold (writing ((worldOf (view b) area .obj c) .label) ((worldOf (view b) area .obj d) .label) ++ (flow ((worldOf (view b) area .obj c) .label) ((worldOf (view b) area .obj o) .label) ∷ []))) 7
+        (grant 0 [] (alter o fix)))
+    from-six = judged ∙ must-passed _ 5 _ (is-entry b area c t d o by k r l e)
 
-    module _ (f : mayRead x y ≡ true) (n : ℕ) (en : n ≡ codeOf (view b) r) where
-      from-six : verdictOn b area c (fixQuota d o)
-          ≡ must (isSegment ((worldOf (view b) area .obj o) .kind)) 6
-          (must (allHold (writing ((worldOf (view b) area .obj c) .label) ((worldOf (view b) area .obj d) .label) ++ (flow ((worldOf (view b) area .obj c) .label) ((worldOf (view b) area .obj o) .label) ∷ []))) 7
-          (grant 0 [] (alter o fix)))
-      from-six = judged ∙ must-passed _ 5 _ (opened-by b area c t d o by k r l e x y ex ey ∙ f)
+    -- no segment: 6
+    pub kind-six : (n ≡ segmentCode → ⊥) → verdictOn b area c (fixQuota d o) ≡ refuse 6
+    kind-six g = from-six ∙ must-failed _ 6 _ (no-segment b area c t d o by k r l e n en g)
 
-      -- no segment: 6
-      pub kind-six : (n ≡ segmentCode → ⊥) → verdictOn b area c (fixQuota d o) ≡ refuse 6
-      kind-six g = from-six ∙ must-failed _ 6 _ (no-segment b area c t d o by k r l e n en g)
+    -- x, y and z are the labels of the caller, the container and the object
+    module _ (g : n ≡ segmentCode) (x y z : Label) (ex : x ≡ labelOf (view b) t) (ey : y ≡ labelOf (view b) k) (ez : z ≡ labelOf (view b) r) where
+      labels-are : allHold (writing ((worldOf (view b) area .obj c) .label) ((worldOf (view b) area .obj d) .label) ++ (flow ((worldOf (view b) area .obj c) .label) ((worldOf (view b) area .obj o) .label) ∷ []))
+          ≡ allHold (writing x y ++ (flow x z ∷ []))
+      labels-are =
+          ap (λ m. allHold (writing m ((worldOf (view b) area .obj d) .label) ++ (flow m ((worldOf (view b) area .obj o) .label) ∷ []))) (caller-label b area c t by ∙ sym ex)
+          ∙ ap₂ (λ m h. allHold (writing x m ++ (flow x h ∷ []))) (container-label b area c t d o by k r l e ∙ sym ey) (its-label b area c t d o by k r l e ∙ sym ez)
 
-      module _ (g : n ≡ segmentCode) (z : Label) (ez : z ≡ labelOf (view b) r) where
-        labels-are : allHold (writing ((worldOf (view b) area .obj c) .label) ((worldOf (view b) area .obj d) .label) ++ (flow ((worldOf (view b) area .obj c) .label) ((worldOf (view b) area .obj o) .label) ∷ []))
-            ≡ allHold (writing x y ++ (flow x z ∷ []))
-        labels-are =
-            ap (λ m. allHold (writing m ((worldOf (view b) area .obj d) .label) ++ (flow m ((worldOf (view b) area .obj o) .label) ∷ []))) (caller-label b area c t by ∙ sym ex)
-            ∙ ap₂ (λ m h. allHold (writing x m ++ (flow x h ∷ []))) (container-label b area c t d o by k r l e ∙ sym ey) (its-label b area c t d o by k r l e ∙ sym ez)
+      from-seven : verdictOn b area c (fixQuota d o)
+          ≡ must (allHold (writing ((worldOf (view b) area .obj c) .label) ((worldOf (view b) area .obj d) .label) ++ (flow ((worldOf (view b) area .obj c) .label) ((worldOf (view b) area .obj o) .label) ∷ []))) 7
+          (grant 0 [] (alter o fix))
+      from-seven = from-six ∙ must-passed _ 6 _ (segment-here b area c t d o by k r l e n en g)
 
-        from-seven : verdictOn b area c (fixQuota d o)
-            ≡ must (allHold (writing ((worldOf (view b) area .obj c) .label) ((worldOf (view b) area .obj d) .label) ++ (flow ((worldOf (view b) area .obj c) .label) ((worldOf (view b) area .obj o) .label) ∷ []))) 7
-            (grant 0 [] (alter o fix))
-        from-seven = from-six ∙ must-passed _ 6 _ (segment-here b area c t d o by k r l e n en g)
+      -- a label condition fails: 7
+      pub label-seven : allHold (writing x y ++ (flow x z ∷ [])) ≡ false → verdictOn b area c (fixQuota d o) ≡ refuse 7
+      label-seven h = from-seven ∙ must-failed _ 7 _ (labels-are ∙ h)
 
-        -- a label condition fails: 7
-        pub label-seven : allHold (writing x y ++ (flow x z ∷ [])) ≡ false → verdictOn b area c (fixQuota d o) ≡ refuse 7
-        label-seven h = from-seven ∙ must-failed _ 7 _ (labels-are ∙ h)
-
-        -- granted
-        pub to-fix : allHold (writing x y ++ (flow x z ∷ [])) ≡ true → ToFix b area c d o r 0 0
-        to-fix h =
-            record {
-              granted = from-seven ∙ must-passed _ 7 _ (labels-are ∙ h);
-              low = object-below b area c t d o by k r l e;
-              row = object-found b area c t d o by k r l e;
-            }
+      -- granted
+      pub to-fix : allHold (writing x y ++ (flow x z ∷ [])) ≡ true → ToFix b area c d o r 0 0
+      to-fix h =
+          record {
+            granted = from-seven ∙ must-passed _ 7 _ (labels-are ∙ h);
+            low = object-below b area c t d o by k r l e;
+            row = object-found b area c t d o by k r l e;
+          }
 
 -- ---- doing it
 

@@ -7,14 +7,13 @@ use lib.ListN.{length}
 use lib.Dec.{eqb, leb}
 use borrow.Author.Tests.{le-leb, lt-leb}
 use Rattle.labels.specs.declared.Label.{Label}
-use Rattle.labels.specs.Core.{mayRead}
 use Rattle.rules.specs.Kernel.{segmentCode, Obj, World, Verdict, refuse, grant, must, judge, entry, opens, fits, isSegment, allHold, writing, flow, linkSegment, link, goodArguments}
 use Rattle.tables.specs.Layout.{view}
 use Rattle.book.specs.declared.Found.the-variants.{At, Nothing}
 use Rattle.book.specs.declared.find.Entry.the-variants as place
 use Rattle.book.specs.Book.{codeOf, fixedOf, quotaOf, labelOf, clearanceOf, worldOf}
 use Rattle.book.specs.Enact.{enactView, enactArea}
-use Rattle.book.specs.Find.{containerRow, entryPlace, linkBetween}
+use Rattle.book.specs.Find.{linkBetween}
 use Rattle.book.specs.Make.{linkedIn, Linking}
 use Rattle.book.specs.Units.{spareAt}
 use Rattle.book.specs.Laws.Find.{link-linked, link-unlinked}
@@ -22,10 +21,11 @@ use Rattle.book.specs.Laws.Tie.{object-fixed}
 use Rattle.calls.specs.declared.Answer.the-variants.{Granted}
 use Rattle.calls.specs.Outcome.{verdictOn, Ready, Done}
 use Rattle.calls.specs.Begun.{Caller}
+use Rattle.calls.specs.Lookup.{openContainer, openEntry}
 use Rattle.calls.specs.LinkSegment.{ToLink}
 use Rattle.calls.specs.Laws.Begun.{caller-judged, caller-label, caller-clearance, placed-by-caller}
-use Rattle.calls.specs.Laws.Entry.{no-entry, opened-by, object-below, object-there, object-named, object-found, object-is, segment-here, no-segment, its-label, its-quota}
-use Rattle.calls.specs.Laws.Opened.{not-open, holder-there, holder-below, holder-named, holder-found, open-by, holder-label, holder-fits}
+use Rattle.calls.specs.Laws.Entry.{no-entry, is-entry, object-below, object-there, object-named, object-found, object-is, segment-here, no-segment, its-label, its-quota}
+use Rattle.calls.specs.Laws.Lookup.{not-open, is-open, holder-there, holder-named, holder-found, holder-label, holder-fits}
 use Rattle.calls.specs.Laws.Prelude.{must-passed, must-failed, book-long, done-granted}
 
 -- ---- the tests, from each number on
@@ -54,113 +54,97 @@ module _ (b area : List ℕ) (c t d1 o d : ℕ) (by : Caller b area c t) where
   judged = caller-judged b area c t by (linkSegment d1 o d) refl
 
   -- no entry: 5
-  pub none-five : entryPlace (view b) d1 o ≡ place.Nothing → verdictOn b area c (linkSegment d1 o d) ≡ refuse 5
+  pub none-five : openEntry (view b) t d1 o ≡ place.Nothing → verdictOn b area c (linkSegment d1 o d) ≡ refuse 5
   none-five e =
       judged ∙ must-failed _ 5 _ (ap (λ a. a && opens (worldOf (view b) area) (worldOf (view b) area .obj c) d) (no-entry b area c t d1 o by e))
 
-  shut : opens (worldOf (view b) area) (worldOf (view b) area .obj c) d ≡ false → verdictOn b area c (linkSegment d1 o d) ≡ refuse 5
-  shut f =
-      judged
-      ∙ must-failed _ 5 _ (ap (λ a. entry (worldOf (view b) area) (worldOf (view b) area .obj c) d1 o && a) f ∙ and-false (entry (worldOf (view b) area) (worldOf (view b) area .obj c) d1 o))
-
   -- no container to link it in: 5
-  pub nowhere-five : containerRow (view b) d ≡ Nothing → verdictOn b area c (linkSegment d1 o d) ≡ refuse 5
-  nowhere-five e = shut (not-open b area c t d by e)
+  pub nowhere-five : openContainer (view b) t d ≡ Nothing → verdictOn b area c (linkSegment d1 o d) ≡ refuse 5
+  nowhere-five e =
+      judged
+      ∙ must-failed _ 5 _
+      (ap (λ a. entry (worldOf (view b) area) (worldOf (view b) area .obj c) d1 o && a) (not-open b area c t d by e)
+      ∙ and-false (entry (worldOf (view b) area) (worldOf (view b) area .obj c) d1 o))
 
-  -- x and y are the labels of the caller and of the container that holds it
-  module _ (h r l : ℕ) (e : entryPlace (view b) d1 o ≡ place.In h r l) (x y : Label) (ex : x ≡ labelOf (view b) t) (ey : y ≡ labelOf (view b) h) where
-    -- that container is unreadable: 5
-    pub shut-five : mayRead x y ≡ false → verdictOn b area c (linkSegment d1 o d) ≡ refuse 5
-    shut-five f =
-        judged
-        ∙ must-failed _ 5 _ (ap (λ a. a && opens (worldOf (view b) area) (worldOf (view b) area .obj c) d) (opened-by b area c t d1 o by h r l e x y ex ey ∙ f))
+  -- it stands in the container at row h and is to be linked in that at row k; n is the code of its kind
+  module _ (h r l : ℕ) (e : openEntry (view b) t d1 o ≡ place.In h r l) (k : ℕ) (g : openContainer (view b) t d ≡ At k) (n : ℕ) (en : n ≡ codeOf (view b) r) where
+    at-six : verdictOn b area c (linkSegment d1 o d) ≡ from-six (worldOf (view b) area) (worldOf (view b) area .obj c) o d
+    at-six = judged ∙ must-passed _ 5 _ (ap₂ _&&_ (is-entry b area c t d1 o by h r l e) (is-open b area c t d by k g))
 
-    -- z is the label of the container to link it in
-    module _ (f : mayRead x y ≡ true) (k : ℕ) (g : containerRow (view b) d ≡ At k) (z : Label) (ez : z ≡ labelOf (view b) k) where
-      -- that one is unreadable: 5
-      pub into-five : mayRead x z ≡ false → verdictOn b area c (linkSegment d1 o d) ≡ refuse 5
-      into-five q = shut (open-by b area c t d by k g x z ex ez ∙ q)
+    -- no segment: 6
+    pub kind-six : (n ≡ segmentCode → ⊥) → verdictOn b area c (linkSegment d1 o d) ≡ refuse 6
+    kind-six s = at-six ∙ must-failed _ 6 _ (no-segment b area c t d1 o by h r l e n en s)
 
-      module _ (q : mayRead x z ≡ true) (n : ℕ) (en : n ≡ codeOf (view b) r) where
-        at-six : verdictOn b area c (linkSegment d1 o d) ≡ from-six (worldOf (view b) area) (worldOf (view b) area .obj c) o d
-        at-six =
-            judged
-            ∙ must-passed _ 5 _
-            (ap₂ _&&_ (opened-by b area c t d1 o by h r l e x y ex ey ∙ f) (open-by b area c t d by k g x z ex ez ∙ q))
+    -- x and u are the label and the clearance of the caller, z and p the labels of the container to link it in and of the segment
+    module _ (s : n ≡ segmentCode) (x u z p : Label) (ex : x ≡ labelOf (view b) t) (eu : u ≡ clearanceOf (view b) t) (ez : z ≡ labelOf (view b) k) (ep : p ≡ labelOf (view b) r) where
+      at-seven : verdictOn b area c (linkSegment d1 o d)
+          ≡ must (labelsHold (worldOf (view b) area) (worldOf (view b) area .obj c) o d) 7 (from-nine (worldOf (view b) area) o d)
+      at-seven = at-six ∙ must-passed _ 6 _ (segment-here b area c t d1 o by h r l e n en s)
 
-        -- no segment: 6
-        pub kind-six : (n ≡ segmentCode → ⊥) → verdictOn b area c (linkSegment d1 o d) ≡ refuse 6
-        kind-six s = at-six ∙ must-failed _ 6 _ (no-segment b area c t d1 o by h r l e n en s)
+      labels-are : labelsHold (worldOf (view b) area) (worldOf (view b) area .obj c) o d ≡ allHold (writing x z ++ (flow p u ∷ []))
+      labels-are =
+          ap₂ (λ m w. allHold (writing m ((worldOf (view b) area .obj d) .label) ++ (flow ((worldOf (view b) area .obj o) .label) w ∷ [])))
+          (caller-label b area c t by ∙ sym ex) (caller-clearance b area c t by ∙ sym eu)
+          ∙ ap₂ (λ m w. allHold (writing x m ++ (flow w u ∷ []))) (holder-label b area c t d by k g ∙ sym ez) (its-label b area c t d1 o by h r l e ∙ sym ep)
 
-        -- u is the caller's clearance and p the segment's label
-        module _ (s : n ≡ segmentCode) (u p : Label) (eu : u ≡ clearanceOf (view b) t) (ep : p ≡ labelOf (view b) r) where
-          at-seven : verdictOn b area c (linkSegment d1 o d)
-              ≡ must (labelsHold (worldOf (view b) area) (worldOf (view b) area .obj c) o d) 7 (from-nine (worldOf (view b) area) o d)
-          at-seven = at-six ∙ must-passed _ 6 _ (segment-here b area c t d1 o by h r l e n en s)
+      -- a label condition fails: 7
+      pub label-seven : allHold (writing x z ++ (flow p u ∷ [])) ≡ false → verdictOn b area c (linkSegment d1 o d) ≡ refuse 7
+      label-seven w = at-seven ∙ must-failed _ 7 _ (labels-are ∙ w)
 
-          labels-are : labelsHold (worldOf (view b) area) (worldOf (view b) area .obj c) o d ≡ allHold (writing x z ++ (flow p u ∷ []))
-          labels-are =
-              ap₂ (λ m w. allHold (writing m ((worldOf (view b) area .obj d) .label) ++ (flow ((worldOf (view b) area .obj o) .label) w ∷ []))) (caller-label b area c t by ∙ sym ex) (caller-clearance b area c t by ∙ sym eu)
-              ∙ ap₂ (λ m w. allHold (writing x m ++ (flow w u ∷ []))) (holder-label b area c t d by k g ∙ sym ez) (its-label b area c t d1 o by h r l e ∙ sym ep)
+      module _ (w : allHold (writing x z ++ (flow p u ∷ [])) ≡ true) (a : Bool) (ea : a ≡ eqb (fixedOf (view b) r) 1) where
+        at-nine : verdictOn b area c (linkSegment d1 o d) ≡ from-nine (worldOf (view b) area) o d
+        at-nine = at-seven ∙ must-passed _ 7 _ (labels-are ∙ w)
 
-          -- a label condition fails: 7
-          pub label-seven : allHold (writing x z ++ (flow p u ∷ [])) ≡ false → verdictOn b area c (linkSegment d1 o d) ≡ refuse 7
-          label-seven w = at-seven ∙ must-failed _ 7 _ (labels-are ∙ w)
+        fixed-is : (worldOf (view b) area .obj o) .fixed ≡ a
+        fixed-is =
+            ap (λ (v : Obj). v .fixed) (object-is b area c t d1 o by h r l e) ∙ (object-fixed (view b) area r (sym en ∙ s) ∙ sym ea)
 
-          module _ (w : allHold (writing x z ++ (flow p u ∷ [])) ≡ true) (a : Bool) (ea : a ≡ eqb (fixedOf (view b) r) 1) where
-            at-nine : verdictOn b area c (linkSegment d1 o d) ≡ from-nine (worldOf (view b) area) o d
-            at-nine = at-seven ∙ must-passed _ 7 _ (labels-are ∙ w)
+        -- its quota is not fixed: 9
+        pub loose-nine : a ≡ false → verdictOn b area c (linkSegment d1 o d) ≡ refuse 9
+        loose-nine i = at-nine ∙ must-failed _ 9 _ (fixed-is ∙ i)
 
-            fixed-is : (worldOf (view b) area .obj o) .fixed ≡ a
-            fixed-is =
-                ap (λ (v : Obj). v .fixed) (object-is b area c t d1 o by h r l e) ∙ (object-fixed (view b) area r (sym en ∙ s) ∙ sym ea)
+        module _ (i : a ≡ true) where
+          at-ten : verdictOn b area c (linkSegment d1 o d) ≡ must (not (worldOf (view b) area .linked d o)) 10 (from-thirteen (worldOf (view b) area) o d)
+          at-ten = at-nine ∙ must-passed _ 9 _ (fixed-is ∙ i)
 
-            -- its quota is not fixed: 9
-            pub loose-nine : a ≡ false → verdictOn b area c (linkSegment d1 o d) ≡ refuse 9
-            loose-nine i = at-nine ∙ must-failed _ 9 _ (fixed-is ∙ i)
+          -- it is there already: 10
+          pub again-ten : (m : ℕ) → linkBetween (view b) k r ≡ At m → verdictOn b area c (linkSegment d1 o d) ≡ refuse 10
+          again-ten m v =
+              at-ten
+              ∙ must-failed _ 10 _
+              (ap not
+              (ap₂ (worldOf (view b) area .linked) (sym (holder-named b area c t d by k g)) (sym (object-named b area c t d1 o by h r l e))
+              ∙ link-linked (view b) area k r m v))
 
-            module _ (i : a ≡ true) where
-              at-ten : verdictOn b area c (linkSegment d1 o d) ≡ must (not (worldOf (view b) area .linked d o)) 10 (from-thirteen (worldOf (view b) area) o d)
-              at-ten = at-nine ∙ must-passed _ 9 _ (fixed-is ∙ i)
+          -- m is what the container has to spare, and q′ the segment's quota
+          module _ (v : linkBetween (view b) k r ≡ Nothing) (m q′ : ℕ) (em : m ≡ spareAt (view b) k) (eq : q′ ≡ quotaOf (view b) r) where
+            at-thirteen : verdictOn b area c (linkSegment d1 o d) ≡ from-thirteen (worldOf (view b) area) o d
+            at-thirteen =
+                at-ten
+                ∙ must-passed _ 10 _
+                (ap not
+                (ap₂ (worldOf (view b) area .linked) (sym (holder-named b area c t d by k g)) (sym (object-named b area c t d1 o by h r l e))
+                ∙ link-unlinked (view b) area k r (placed-by-caller b area c t by) (holder-there b area c t d by k g) (object-there b area c t d1 o by h r l e) v))
 
-              -- it is there already: 10
-              pub again-ten : (m : ℕ) → linkBetween (view b) k r ≡ At m → verdictOn b area c (linkSegment d1 o d) ≡ refuse 10
-              again-ten m v =
-                  at-ten
-                  ∙ must-failed _ 10 _
-                  (ap not
-                  (ap₂ (worldOf (view b) area .linked) (sym (holder-named b area c t d by k g)) (sym (object-named b area c t d1 o by h r l e))
-                  ∙ link-linked (view b) area k r m v))
+            fits-is : fits (worldOf (view b) area) d ((worldOf (view b) area .obj o) .quota) ≡ leb q′ m
+            fits-is =
+                holder-fits b area c t d by k g ((worldOf (view b) area .obj o) .quota)
+                ∙ ap₂ leb (its-quota b area c t d1 o by h r l e ∙ sym eq) (sym em)
 
-              -- m is what the container has to spare, and q′ the segment's quota
-              module _ (v : linkBetween (view b) k r ≡ Nothing) (m q′ : ℕ) (em : m ≡ spareAt (view b) k) (eq : q′ ≡ quotaOf (view b) r) where
-                at-thirteen : verdictOn b area c (linkSegment d1 o d) ≡ from-thirteen (worldOf (view b) area) o d
-                at-thirteen =
-                    at-ten
-                    ∙ must-passed _ 10 _
-                    (ap not
-                    (ap₂ (worldOf (view b) area .linked) (sym (holder-named b area c t d by k g)) (sym (object-named b area c t d1 o by h r l e))
-                    ∙ link-unlinked (view b) area k r (placed-by-caller b area c t by) (holder-there b area c t d by k g) (object-there b area c t d1 o by h r l e) v))
+            -- not enough spare: 13
+            pub spare-thirteen : m < q′ → verdictOn b area c (linkSegment d1 o d) ≡ refuse 13
+            spare-thirteen j = at-thirteen ∙ must-failed _ 13 _ (fits-is ∙ lt-leb q′ m j)
 
-                fits-is : fits (worldOf (view b) area) d ((worldOf (view b) area .obj o) .quota) ≡ leb q′ m
-                fits-is =
-                    holder-fits b area c t d by k g ((worldOf (view b) area .obj o) .quota)
-                    ∙ ap₂ leb (its-quota b area c t d1 o by h r l e ∙ sym eq) (sym em)
-
-                -- not enough spare: 13
-                pub spare-thirteen : m < q′ → verdictOn b area c (linkSegment d1 o d) ≡ refuse 13
-                spare-thirteen j = at-thirteen ∙ must-failed _ 13 _ (fits-is ∙ lt-leb q′ m j)
-
-                -- granted
-                pub to-link : q′ ≤ m → ToLink b area c d1 o d k r 0
-                to-link j =
-                    record {
-                      granted = at-thirteen ∙ must-passed _ 13 _ (fits-is ∙ le-leb q′ m j);
-                      container-low = holder-below b area c t d by k g;
-                      object-low = object-below b area c t d1 o by h r l e;
-                      container-row = holder-found b area c t d by k g;
-                      object-row = object-found b area c t d1 o by h r l e;
-                    }
+            -- granted
+            pub to-link : q′ ≤ m → ToLink b area c d1 o d k r 0
+            to-link j =
+                record {
+                  granted = at-thirteen ∙ must-passed _ 13 _ (fits-is ∙ le-leb q′ m j);
+                  container-low = holder-there b area c t d by k g .low;
+                  object-low = object-below b area c t d1 o by h r l e;
+                  container-row = holder-found b area c t d by k g;
+                  object-row = object-found b area c t d1 o by h r l e;
+                }
 
 -- ---- doing it
 

@@ -1,5 +1,5 @@
 -- Call 16: the place looked up, the bytes put out, and the verdict at each way out of its judging.
-use Prim.Native.Nat.{ℕ, _+_, _*_, _<_, _≤_}
+use Prim.Native.Nat.{ℕ, _+_, _*_, _≤_}
 use native.Mathlib.Omega.{arith}
 use mathlib.Core.Bool.{Bool, true, false, not, cond, _&&_, _||_}
 use mathlib.Core.Path.{_≡_, refl, sym, ap, ap₂, subst, _∙_}
@@ -10,48 +10,48 @@ use borrow.Author.Tests.{eq-eqb, ne-eqb, eqb-true, eqb-false}
 use Rattle.labels.specs.declared.Label.{Label}
 use Rattle.labels.specs.Core.{mayRead, wordsBytes, wordCount}
 use Rattle.labels.specs.Core.Formed.{formed-default-top}
-use Rattle.rules.specs.Kernel.{threadCode, containerCode, maxCode, Obj, refuse, grant, must, judge, opens, entry, look, keep, kindCode, lookBytes, lookSize, goodArguments}
-use Rattle.tables.specs.Layout.{View, view, rowCount}
+use Rattle.rules.specs.Kernel.{threadCode, maxCode, Obj, refuse, grant, must, judge, opens, entry, look, keep, kindCode, lookBytes, lookSize, goodArguments}
+use Rattle.tables.specs.Layout.{View, view}
 use Rattle.book.specs.declared.Found.the-variants.{At, Nothing}
 use Rattle.book.specs.declared.find.Entry.the-variants as place
 use Rattle.book.specs.Book.{nextOf, codeOf, labelOf, objectAt, worldOf, onFound, isThreadOrGate}
-use Rattle.book.specs.Find.{containerRow, entryPlace}
-use Rattle.book.specs.Placed.{Placed}
 use Rattle.book.specs.Sound.{Live}
 use Rattle.book.specs.Enact.{movedOn, enactView, enactArea}
 use Rattle.book.specs.Laws.Codes.{code-from}
 use Rattle.book.specs.Laws.First.{found-cases, on-at, on-nothing}
-use Rattle.book.specs.Laws.Find.{kind-is, container-found, opens-at, opens-none, entry-found, entry-opens, entry-none}
-use Rattle.book.specs.Laws.Tie.{row-is, object-kind, object-label, object-description, object-thread}
+use Rattle.book.specs.Laws.Find.{container-found}
+use Rattle.book.specs.Laws.Tie.{object-kind, object-label, object-description, object-thread}
 use Rattle.calls.specs.declared.Answer.the-variants.{Granted}
 use Rattle.calls.specs.Outcome.{verdictOn, Done, Ready}
 use Rattle.calls.specs.Begun.{Caller}
-use Rattle.calls.specs.Look.{lookPlace, shownBytes, hiddenBytes, lookAt, ToLook}
-use Rattle.calls.specs.Laws.Begun.{caller-four, caller-judged, caller-label, caller-low, placed-by-caller, sound-by-caller}
+use Rattle.calls.specs.Lookup.{openContainer, openEntry}
+use Rattle.calls.specs.Look.{openLook, shownBytes, hiddenBytes, lookAt, ToLook}
+use Rattle.calls.specs.Laws.Begun.{caller-four, caller-judged, caller-label, caller-low, sound-by-caller}
+use Rattle.calls.specs.Laws.Entry.{no-entry, is-entry, object-there, object-is}
+use Rattle.calls.specs.Laws.Lookup.{not-open, is-open, holder-row, holder-there}
 use Rattle.calls.specs.Laws.Prelude.{must-passed, must-failed, done-granted}
 
 -- ---- the place
 
 -- another object: the entry's place
-pub place-other : (v : View) (d o : ℕ) → (o ≡ d → ⊥) → lookPlace v d o ≡ entryPlace v d o
-unfolding lookPlace
-place-other v d o ne = ap (λ (x : Bool). cond x (onFound (containerRow v d) (λ c. place.In c c 0) place.Nothing) (entryPlace v d o)) (ne-eqb o d ne)
+pub place-other : (v : View) (t d o : ℕ) → (o ≡ d → ⊥) → openLook v t d o ≡ openEntry v t d o
+unfolding openLook
+place-other v t d o ne = ap (λ (x : Bool). cond x (onFound (openContainer v t d) (λ c. place.In c c 0) place.Nothing) (openEntry v t d o)) (ne-eqb o d ne)
 
-place-own : (v : View) (d o : ℕ) → o ≡ d → lookPlace v d o ≡ onFound (containerRow v d) (λ c. place.In c c 0) place.Nothing
-unfolding lookPlace
-place-own v d o e = ap (λ (x : Bool). cond x (onFound (containerRow v d) (λ c. place.In c c 0) place.Nothing) (entryPlace v d o)) (eq-eqb o d e)
+place-own : (v : View) (t d o : ℕ) → o ≡ d → openLook v t d o ≡ onFound (openContainer v t d) (λ c. place.In c c 0) place.Nothing
+unfolding openLook
+place-own v t d o e = ap (λ (x : Bool). cond x (onFound (openContainer v t d) (λ c. place.In c c 0) place.Nothing) (openEntry v t d o)) (eq-eqb o d e)
 
 -- the container itself
-pub place-container : (v : View) (d o c : ℕ) → o ≡ d → containerRow v d ≡ At c → lookPlace v d o ≡ place.In c c 0
-place-container v d o c e f = place-own v d o e ∙ on-at (containerRow v d) c (λ c. place.In c c 0) place.Nothing f
+pub place-container : (v : View) (t d o c : ℕ) → o ≡ d → openContainer v t d ≡ At c → openLook v t d o ≡ place.In c c 0
+place-container v t d o c e f = place-own v t d o e ∙ on-at (openContainer v t d) c (λ c. place.In c c 0) place.Nothing f
 
-pub place-missing : (v : View) (d o : ℕ) → o ≡ d → containerRow v d ≡ Nothing → lookPlace v d o ≡ place.Nothing
-place-missing v d o e f = place-own v d o e ∙ on-nothing (containerRow v d) (λ c. place.In c c 0) place.Nothing f
+pub place-missing : (v : View) (t d o : ℕ) → o ≡ d → openContainer v t d ≡ Nothing → openLook v t d o ≡ place.Nothing
+place-missing v t d o e f = place-own v t d o e ∙ on-nothing (openContainer v t d) (λ c. place.In c c 0) place.Nothing f
 
 -- what a place that is found says
-pub record Looked (v : View) (area : List ℕ) (t : Obj) (d o c r : ℕ) : Type 0 where
-  pub opened : (opens (worldOf v area) t d && (eqb o d || (worldOf v area) .linked d o)) ≡ mayRead (t .label) (labelOf v c)
-  pub container-low : c < rowCount
+pub record Looked (v : View) (area : List ℕ) (t : Obj) (d o r : ℕ) : Type 0 where
+  pub opened : (opens (worldOf v area) t d && (eqb o d || (worldOf v area) .linked d o)) ≡ true
   pub object-live : Live v r
   pub object-is : (worldOf v area) .obj o ≡ objectAt v area r
 
@@ -62,8 +62,8 @@ same-or-other {C} o d f g = go (eqb o d) refl
     go true e = f (eqb-true o d e)
     go false e = g (eqb-false o d e)
 
-no-entry : (c r l : ℕ) → place.In c r l ≡ place.Nothing → ⊥
-no-entry c r l e = let z : _≡_ {A = ℕ} 0 1 = cc in omega arith
+not-nothing : (c r l : ℕ) → place.In c r l ≡ place.Nothing → ⊥
+not-nothing c r l e = let z : _≡_ {A = ℕ} 0 1 = cc in omega arith
 
 and-true : (a : Bool) → (a && true) ≡ a
 and-true true = refl
@@ -79,36 +79,34 @@ module _ (v : View) (area : List ℕ) (t : Obj) (d o : ℕ) where
   unfolding entry
   other-asked ne = ap (λ (x : Bool). opens (worldOf v area) t d && (x || (worldOf v area) .linked d o)) (ne-eqb o d ne)
 
-  pub look-none : Placed v → lookPlace v d o ≡ place.Nothing → (opens (worldOf v area) t d && (eqb o d || (worldOf v area) .linked d o)) ≡ false
-  look-none p h =
+module _ (b area : List ℕ) (c t d o : ℕ) (by : Caller b area c t) where
+  look-none : openLook (view b) t d o ≡ place.Nothing
+      → (opens (worldOf (view b) area) (worldOf (view b) area .obj c) d && (eqb o d || worldOf (view b) area .linked d o)) ≡ false
+  look-none h =
       same-or-other o d
-      (λ e. own-asked e ∙ found-cases (containerRow v d)
-      (λ c f. absurd (no-entry c c 0 (sym (place-container v d o c e f) ∙ h)))
-      (λ f. opens-none v area t d f))
-      (λ ne. other-asked ne ∙ entry-none v area t d o p (sym (place-other v d o ne) ∙ h))
+      (λ e. own-asked (view b) area (worldOf (view b) area .obj c) d o e ∙ found-cases (openContainer (view b) t d)
+      (λ k f. absurd (not-nothing k k 0 (sym (place-container (view b) t d o k e f) ∙ h)))
+      (not-open b area c t d by))
+      (λ ne. other-asked (view b) area (worldOf (view b) area .obj c) d o ne ∙ no-entry b area c t d o by (sym (place-other (view b) t d o ne) ∙ h))
 
-  pub look-found : (c r l : ℕ) → lookPlace v d o ≡ place.In c r l → Looked v area t d o c r
-  look-found c r l h =
+  look-found : (k r l : ℕ) → openLook (view b) t d o ≡ place.In k r l → Looked (view b) area (worldOf (view b) area .obj c) d o r
+  look-found k r l h =
       same-or-other o d
-      (λ e. found-cases {C = Looked v area t d o c r} (containerRow v d)
-      (λ k f. let q : place.In k k 0 ≡ place.In c r l = sym (place-container v d o k e f) ∙ h in
-      let x : k ≡ c = cc in
-      let y : k ≡ r = cc in
-      let live = row-is v d k (kind-is containerCode v d k f .0) .0 in
+      (λ e. found-cases {C = Looked (view b) area (worldOf (view b) area .obj c) d o r} (openContainer (view b) t d)
+      (λ i f. let q : place.In i i 0 ≡ place.In k r l = sym (place-container (view b) t d o i e f) ∙ h in
+      let y : i ≡ r = cc in
       record {
-        opened = own-asked e ∙ (opens-at v area t d k f ∙ ap (λ (i : ℕ). mayRead (t .label) (labelOf v i)) x);
-        container-low = subst (λ (i : ℕ). i < rowCount) x (live .low);
-        object-live = subst (Live v) y live;
-        object-is = ap ((worldOf v area) .obj) e ∙ (container-found v area d k f .1 ∙ ap (objectAt v area) y);
+        opened = own-asked (view b) area (worldOf (view b) area .obj c) d o e ∙ is-open b area c t d by i f;
+        object-live = subst (Live (view b)) y (holder-there b area c t d by i f);
+        object-is =
+            ap (worldOf (view b) area .obj) e ∙ (container-found (view b) area d i (holder-row b area c t d by i f) .1 ∙ ap (objectAt (view b) area) y);
       })
-      (λ f. absurd (no-entry c r l (sym h ∙ place-missing v d o e f))))
-      (λ ne. let f = sym (place-other v d o ne) ∙ h in
-      let x = entry-found v d o area c r l f in
+      (λ f. absurd (not-nothing k r l (sym h ∙ place-missing (view b) t d o e f))))
+      (λ ne. let f = sym (place-other (view b) t d o ne) ∙ h in
       record {
-        opened = other-asked ne ∙ entry-opens v area t d o c r l f;
-        container-low = x .container-live .low;
-        object-live = x .object-live;
-        object-is = x .object-object;
+        opened = other-asked (view b) area (worldOf (view b) area .obj c) d o ne ∙ is-entry b area c t d o by k r l f;
+        object-live = object-there b area c t d o by k r l f;
+        object-is = object-is b area c t d o by k r l f;
       })
 
 -- ---- the bytes
@@ -147,36 +145,28 @@ module _ (b area : List ℕ) (c t d o n : ℕ) (by : Caller b area c t) where
     judged = caller-judged b area c t by (look d o n) (eq-eqb n lookSize sized)
 
     -- no such place: 5
-    pub look-missing : lookPlace (view b) d o ≡ place.Nothing → verdictOn b area c (look d o n) ≡ refuse 5
-    look-missing e = judged ∙ must-failed _ 5 _ (look-none (view b) area (worldOf (view b) area .obj c) d o (placed-by-caller b area c t by) e)
+    pub look-five : openLook (view b) t d o ≡ place.Nothing → verdictOn b area c (look d o n) ≡ refuse 5
+    look-five e = judged ∙ must-failed _ 5 _ (look-none b area c t d o by e)
 
-    module _ (k r l : ℕ) (e : lookPlace (view b) d o ≡ place.In k r l) where
-      seen : Looked (view b) area (worldOf (view b) area .obj c) d o k r
-      seen = look-found (view b) area (worldOf (view b) area .obj c) d o k r l e
-
-      pub look-container-low : k < rowCount
-      look-container-low = seen .container-low
-
-      readable : (opens (worldOf (view b) area) (worldOf (view b) area .obj c) d && (eqb o d || (worldOf (view b) area) .linked d o)) ≡ mayRead (labelOf (view b) t) (labelOf (view b) k)
-      readable = seen .opened ∙ ap (λ (x : Label). mayRead x (labelOf (view b) k)) (caller-label b area c t by)
-
-      -- an unreadable container: 5
-      pub look-shut : mayRead (labelOf (view b) t) (labelOf (view b) k) ≡ false → verdictOn b area c (look d o n) ≡ refuse 5
-      look-shut f = judged ∙ must-failed _ 5 _ (readable ∙ f)
-
-      -- granted
-      pub to-look : mayRead (labelOf (view b) t) (labelOf (view b) k) ≡ true → ToLook b area c d o n t r l
-      to-look f =
-          record {
-            granted =
-                judged ∙ (must-passed _ 5 _ (readable ∙ f)
-                ∙ (ap₂ (λ (x : Label) (y : Obj). grant 0 (lookBytes x y) keep) (caller-label b area c t by) (seen .object-is)
-                ∙ ap (λ (x : List ℕ). grant 0 x keep) (look-bytes (view b) area (labelOf (view b) t) r (sound-by-caller b area c t by .ranges r (seen .object-live) .code-most))));
-            sized = sized;
-            caller-low = caller-low b area c t by;
-            object-low = seen .object-live .low;
-            label-fits = omega (arith, formed-default-top (nextOf (view b)) (isThreadOrGate (codeOf (view b) r)) (labelOf (view b) r .default) (labelOf (view b) r .words) (sound-by-caller b area c t by .labels r (seen .object-live)));
-          }
+    -- granted
+    pub to-look : (k r l : ℕ) → openLook (view b) t d o ≡ place.In k r l → ToLook b area c d o n t r l
+    to-look k r l e =
+        let seen = look-found b area c t d o by k r l e in
+        record {
+          granted =
+              judged ∙ (must-passed _ 5 _ (seen .opened)
+              ∙ (ap₂ (λ (x : Label) (y : Obj). grant 0 (lookBytes x y) keep) (caller-label b area c t by) (seen .object-is)
+              ∙ ap (λ (x : List ℕ). grant 0 x keep) (look-bytes (view b) area (labelOf (view b) t) r (sound-by-caller b area c t by .ranges r (seen .object-live) .code-most))));
+          sized = sized;
+          caller-low = caller-low b area c t by;
+          object-low = seen .object-live .low;
+          label-fits =
+              omega (
+                arith,
+                formed-default-top (nextOf (view b)) (isThreadOrGate (codeOf (view b) r)) (labelOf (view b) r .default) (labelOf (view b) r .words)
+                    (sound-by-caller b area c t by .labels r (seen .object-live)),
+              );
+        }
 
 -- the number moves on and nothing else is changed
 pub look-done : (b area : List ℕ) (c d o n t r l : ℕ) → Ready b area → ToLook b area c d o n t r l → (b′ : List ℕ) → length b′ ≡ length b

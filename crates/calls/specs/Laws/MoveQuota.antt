@@ -9,14 +9,12 @@ use lib.Dec.{eqb, leb}
 use lib.IntN.{ℤ}
 use borrow.Author.Tests.{eq-eqb, ne-eqb, eqb-true, eqb-false, leb-true}
 use Rattle.labels.specs.declared.Label.{Label}
-use Rattle.labels.specs.Core.{mayRead}
 use Rattle.rules.specs.Kernel.{segmentCode, containerCode, Obj, refuse, grant, must, entry, fits, isSegment, isContainer, allHold, writing, flow, moveQuota, alter, requota, rootQuota, lastNumber}
 use Rattle.rules.specs.Laws.Bools.{bool-cases}
 use Rattle.tables.specs.Layout.{View, view}
 use Rattle.book.specs.declared.find.Entry.the-variants as place
 use Rattle.book.specs.Book.{nextOf, codeOf, fixedOf, quotaOf, labelOf, clearanceOf, objectAt, worldOf}
 use Rattle.book.specs.Enact.{movedOn, requotaed, alteredView, alteredArea}
-use Rattle.book.specs.Find.{entryPlace}
 use Rattle.book.specs.Units.{spareAt}
 use Rattle.book.specs.Laws.Enacted.{alter-view, alter-area}
 use Rattle.book.specs.Laws.Tie.{object-fixed, object-unfixed}
@@ -24,13 +22,14 @@ use Rattle.calls.specs.declared.amount.Amount.{Amount}
 use Rattle.calls.specs.declared.amount.Amount.the-variants.{In, Out, Bad}
 use Rattle.calls.specs.declared.Answer.the-variants.{Granted}
 use Rattle.calls.specs.Amount.{amountOf, overLimit, moreFor, roomFor, roomAt, quotaFor, Reckoned}
+use Rattle.calls.specs.Lookup.{openEntry}
 use Rattle.calls.specs.MoveQuota.{isFixed, ToMove}
 use Rattle.calls.specs.Outcome.{verdictOn, Ready, Done}
 use Rattle.calls.specs.Begun.{Caller}
 use Rattle.calls.specs.Laws.Amount.{bad-argument, good-argument, moving, amount-judged, quota-small}
 use Rattle.calls.specs.Laws.Begun.{caller-judged, caller-four, caller-label, caller-clearance, sound-by-caller}
-use Rattle.calls.specs.Laws.Entry.{no-entry, opened-by, container-there, container-named, object-there, object-below, object-named, object-found, object-is, is-segment, is-container, container-label, its-label, its-quota}
-use Rattle.calls.specs.Laws.Opened.{fits-at}
+use Rattle.calls.specs.Laws.Entry.{no-entry, is-entry, container-there, container-named, object-there, object-below, object-named, object-found, object-is, is-segment, is-container, container-label, its-label, its-quota}
+use Rattle.calls.specs.Laws.Lookup.{fits-at}
 use Rattle.calls.specs.Laws.Prelude.{must-passed, must-failed, done-granted}
 
 -- ---- the tests of code
@@ -87,92 +86,88 @@ module _ (b area : List ℕ) (c t d o : ℕ) (by : Caller b area c t) (z : ℤ) 
         ∙ amount-judged (worldOf (view b) area) (worldOf (view b) area .obj c) c d o z u eu ok
 
     -- no entry: 5
-    pub none-five : entryPlace (view b) d o ≡ place.Nothing → verdictOn b area c (moveQuota d o z) ≡ refuse 5
+    pub none-five : openEntry (view b) t d o ≡ place.Nothing → verdictOn b area c (moveQuota d o z) ≡ refuse 5
     none-five e = judged ∙ must-failed _ 5 _ (no-entry b area c t d o by e)
 
-    -- x and y are the labels of the caller and of the container
-    module _ (k r l : ℕ) (e : entryPlace (view b) d o ≡ place.In k r l) (x y : Label) (ex : x ≡ labelOf (view b) t) (ey : y ≡ labelOf (view b) k) where
-      -- an unreadable container: 5
-      pub shut-five : mayRead x y ≡ false → verdictOn b area c (moveQuota d o z) ≡ refuse 5
-      shut-five f = judged ∙ must-failed _ 5 _ (opened-by b area c t d o by k r l e x y ex ey ∙ f)
+    -- n is the code of the object's kind
+    module _ (k r l : ℕ) (e : openEntry (view b) t d o ≡ place.In k r l) (n : ℕ) (en : n ≡ codeOf (view b) r) where
+      kind-is : (isSegment ((worldOf (view b) area .obj o) .kind) || isContainer ((worldOf (view b) area .obj o) .kind)) ≡ (eqb n segmentCode || eqb n containerCode)
+      kind-is =
+          ap₂ _||_
+          (is-segment b area c t d o by k r l e ∙ ap (λ m. eqb m segmentCode) (sym en))
+          (is-container b area c t d o by k r l e ∙ ap (λ m. eqb m containerCode) (sym en))
 
-      module _ (f : mayRead x y ≡ true) (n : ℕ) (en : n ≡ codeOf (view b) r) where
-        kind-is : (isSegment ((worldOf (view b) area .obj o) .kind) || isContainer ((worldOf (view b) area .obj o) .kind)) ≡ (eqb n segmentCode || eqb n containerCode)
-        kind-is =
-            ap₂ _||_
-            (is-segment b area c t d o by k r l e ∙ ap (λ m. eqb m segmentCode) (sym en))
-            (is-container b area c t d o by k r l e ∙ ap (λ m. eqb m containerCode) (sym en))
+      -- neither segment nor container: 6
+      pub kind-six : (eqb n segmentCode || eqb n containerCode) ≡ false → verdictOn b area c (moveQuota d o z) ≡ refuse 6
+      kind-six g = judged ∙ (must-passed _ 5 _ (is-entry b area c t d o by k r l e) ∙ must-failed _ 6 _ (kind-is ∙ g))
 
-        -- neither segment nor container: 6
-        pub kind-six : (eqb n segmentCode || eqb n containerCode) ≡ false → verdictOn b area c (moveQuota d o z) ≡ refuse 6
-        kind-six g = judged ∙ (must-passed _ 5 _ (opened-by b area c t d o by k r l e x y ex ey ∙ f) ∙ must-failed _ 6 _ (kind-is ∙ g))
+      -- x and p are the label and the clearance of the caller, y and q the labels of the container and of the object
+      module _ (g : (eqb n segmentCode || eqb n containerCode) ≡ true) (x p y q : Label) (ex : x ≡ labelOf (view b) t) (ep : p ≡ clearanceOf (view b) t)
+          (ey : y ≡ labelOf (view b) k) (eq : q ≡ labelOf (view b) r) where
+        labels-are : allHold
+            (writing ((worldOf (view b) area .obj c) .label) ((worldOf (view b) area .obj d) .label)
+            ++ (flow ((worldOf (view b) area .obj c) .label) ((worldOf (view b) area .obj o) .label)
+            ∷ flow ((worldOf (view b) area .obj o) .label) ((worldOf (view b) area .obj c) .clearance)
+            ∷ moreFor u ((worldOf (view b) area .obj c) .label) ((worldOf (view b) area .obj o) .label)))
+            ≡ allHold (writing x y ++ (flow x q ∷ flow q p ∷ moreFor u x q))
+        labels-are =
+            ap₂ (λ m w. allHold (writing m ((worldOf (view b) area .obj d) .label) ++ (flow m ((worldOf (view b) area .obj o) .label) ∷ flow ((worldOf (view b) area .obj o) .label) w ∷ moreFor u m ((worldOf (view b) area .obj o) .label))))
+            (caller-label b area c t by ∙ sym ex) (caller-clearance b area c t by ∙ sym ep)
+            ∙ ap₂ (λ m w. allHold (writing x m ++ (flow x w ∷ flow w p ∷ moreFor u x w)))
+            (container-label b area c t d o by k r l e ∙ sym ey) (its-label b area c t d o by k r l e ∙ sym eq)
 
-        -- p and q are the caller's clearance and the object's label
-        module _ (g : (eqb n segmentCode || eqb n containerCode) ≡ true) (p q : Label) (ep : p ≡ clearanceOf (view b) t) (eq : q ≡ labelOf (view b) r) where
-          labels-are : allHold
-              (writing ((worldOf (view b) area .obj c) .label) ((worldOf (view b) area .obj d) .label)
-              ++ (flow ((worldOf (view b) area .obj c) .label) ((worldOf (view b) area .obj o) .label)
-              ∷ flow ((worldOf (view b) area .obj o) .label) ((worldOf (view b) area .obj c) .clearance)
-              ∷ moreFor u ((worldOf (view b) area .obj c) .label) ((worldOf (view b) area .obj o) .label)))
-              ≡ allHold (writing x y ++ (flow x q ∷ flow q p ∷ moreFor u x q))
-          labels-are =
-              ap₂ (λ m w. allHold (writing m ((worldOf (view b) area .obj d) .label) ++ (flow m ((worldOf (view b) area .obj o) .label) ∷ flow ((worldOf (view b) area .obj o) .label) w ∷ moreFor u m ((worldOf (view b) area .obj o) .label))))
-              (caller-label b area c t by ∙ sym ex) (caller-clearance b area c t by ∙ sym ep)
-              ∙ ap₂ (λ m w. allHold (writing x m ++ (flow x w ∷ flow w p ∷ moreFor u x w)))
-              (container-label b area c t d o by k r l e ∙ sym ey) (its-label b area c t d o by k r l e ∙ sym eq)
+        -- a label condition fails: 7
+        pub label-seven : allHold (writing x y ++ (flow x q ∷ flow q p ∷ moreFor u x q)) ≡ false → verdictOn b area c (moveQuota d o z) ≡ refuse 7
+        label-seven h =
+            judged
+            ∙ (must-passed _ 5 _ (is-entry b area c t d o by k r l e)
+            ∙ (must-passed _ 6 _ (kind-is ∙ g) ∙ must-failed _ 7 _ (labels-are ∙ h)))
 
-          -- a label condition fails: 7
-          pub label-seven : allHold (writing x y ++ (flow x q ∷ flow q p ∷ moreFor u x q)) ≡ false → verdictOn b area c (moveQuota d o z) ≡ refuse 7
-          label-seven h =
+        module _ (h : allHold (writing x y ++ (flow x q ∷ flow q p ∷ moreFor u x q)) ≡ true) where
+          at-nine : verdictOn b area c (moveQuota d o z)
+              ≡ must (not ((worldOf (view b) area .obj o) .fixed)) 9
+              (must (roomFor u (worldOf (view b) area) d o) 13
+              (grant 0 [] (alter o (requota (quotaFor u ((worldOf (view b) area .obj o) .quota))))))
+          at-nine =
               judged
-              ∙ (must-passed _ 5 _ (opened-by b area c t d o by k r l e x y ex ey ∙ f)
-              ∙ (must-passed _ 6 _ (kind-is ∙ g) ∙ must-failed _ 7 _ (labels-are ∙ h)))
+              ∙ (must-passed _ 5 _ (is-entry b area c t d o by k r l e)
+              ∙ (must-passed _ 6 _ (kind-is ∙ g) ∙ must-passed _ 7 _ (labels-are ∙ h)))
 
-          module _ (h : allHold (writing x y ++ (flow x q ∷ flow q p ∷ moreFor u x q)) ≡ true) where
-            at-nine : verdictOn b area c (moveQuota d o z)
-                ≡ must (not ((worldOf (view b) area .obj o) .fixed)) 9
-                (must (roomFor u (worldOf (view b) area) d o) 13
-                (grant 0 [] (alter o (requota (quotaFor u ((worldOf (view b) area .obj o) .quota))))))
-            at-nine =
-                judged
-                ∙ (must-passed _ 5 _ (opened-by b area c t d o by k r l e x y ex ey ∙ f)
-                ∙ (must-passed _ 6 _ (kind-is ∙ g) ∙ must-passed _ 7 _ (labels-are ∙ h)))
+          fixed-is : (worldOf (view b) area .obj o) .fixed ≡ isFixed (view b) r
+          fixed-is = ap (λ (v : Obj). v .fixed) (object-is b area c t d o by k r l e) ∙ fixed-object (view b) area r
 
-            fixed-is : (worldOf (view b) area .obj o) .fixed ≡ isFixed (view b) r
-            fixed-is = ap (λ (v : Obj). v .fixed) (object-is b area c t d o by k r l e) ∙ fixed-object (view b) area r
+          -- its quota is fixed: 9
+          pub fixed-nine : isFixed (view b) r ≡ true → verdictOn b area c (moveQuota d o z) ≡ refuse 9
+          fixed-nine i = at-nine ∙ must-failed _ 9 _ (ap not (fixed-is ∙ i))
 
-            -- its quota is fixed: 9
-            pub fixed-nine : isFixed (view b) r ≡ true → verdictOn b area c (moveQuota d o z) ≡ refuse 9
-            fixed-nine i = at-nine ∙ must-failed _ 9 _ (ap not (fixed-is ∙ i))
+          module _ (i : isFixed (view b) r ≡ false) where
+            at-thirteen : verdictOn b area c (moveQuota d o z)
+                ≡ must (roomFor u (worldOf (view b) area) d o) 13
+                (grant 0 [] (alter o (requota (quotaFor u ((worldOf (view b) area .obj o) .quota)))))
+            at-thirteen = at-nine ∙ must-passed _ 9 _ (ap not (fixed-is ∙ i))
 
-            module _ (i : isFixed (view b) r ≡ false) where
-              at-thirteen : verdictOn b area c (moveQuota d o z)
-                  ≡ must (roomFor u (worldOf (view b) area) d o) 13
-                  (grant 0 [] (alter o (requota (quotaFor u ((worldOf (view b) area .obj o) .quota)))))
-              at-thirteen = at-nine ∙ must-passed _ 9 _ (ap not (fixed-is ∙ i))
+            rooms : roomFor u (worldOf (view b) area) d o ≡ roomAt u (view b) k r
+            rooms =
+                room-is u b area d o k r
+                (fits-at b area d k (sound-by-caller b area c t by) (container-there b area c t d o by k r l e) (container-named b area c t d o by k r l e))
+                (fits-at b area o r (sound-by-caller b area c t by) (object-there b area c t d o by k r l e) (object-named b area c t d o by k r l e))
 
-              rooms : roomFor u (worldOf (view b) area) d o ≡ roomAt u (view b) k r
-              rooms =
-                  room-is u b area d o k r
-                  (fits-at b area d k (sound-by-caller b area c t by) (container-there b area c t d o by k r l e) (container-named b area c t d o by k r l e))
-                  (fits-at b area o r (sound-by-caller b area c t by) (object-there b area c t d o by k r l e) (object-named b area c t d o by k r l e))
+            -- not enough spare: 13
+            pub spare-thirteen : roomAt u (view b) k r ≡ false → verdictOn b area c (moveQuota d o z) ≡ refuse 13
+            spare-thirteen j = at-thirteen ∙ must-failed _ 13 _ (rooms ∙ j)
 
-              -- not enough spare: 13
-              pub spare-thirteen : roomAt u (view b) k r ≡ false → verdictOn b area c (moveQuota d o z) ≡ refuse 13
-              spare-thirteen j = at-thirteen ∙ must-failed _ 13 _ (rooms ∙ j)
-
-              -- granted
-              pub to-move : roomAt u (view b) k r ≡ true → ToMove b area c d o z u r 0 0
-              to-move j =
-                  record {
-                    granted =
-                        at-thirteen
-                        ∙ (must-passed _ 13 _ (rooms ∙ j) ∙ ap (λ m. grant 0 [] (alter o (requota (quotaFor u m)))) (its-quota b area c t d o by k r l e));
-                    low = object-below b area c t d o by k r l e;
-                    row = object-found b area c t d o by k r l e;
-                    quota-most = (sound-by-caller b area c t by) .ranges r (object-there b area c t d o by k r l e) .quota-most;
-                    reckoned = room-reckoned u (view b) k r ((sound-by-caller b area c t by) .ranges k (container-there b area c t d o by k r l e) .quota-most) j;
-                  }
+            -- granted
+            pub to-move : roomAt u (view b) k r ≡ true → ToMove b area c d o z u r 0 0
+            to-move j =
+                record {
+                  granted =
+                      at-thirteen
+                      ∙ (must-passed _ 13 _ (rooms ∙ j) ∙ ap (λ m. grant 0 [] (alter o (requota (quotaFor u m)))) (its-quota b area c t d o by k r l e));
+                  low = object-below b area c t d o by k r l e;
+                  row = object-found b area c t d o by k r l e;
+                  quota-most = (sound-by-caller b area c t by) .ranges r (object-there b area c t d o by k r l e) .quota-most;
+                  reckoned = room-reckoned u (view b) k r ((sound-by-caller b area c t by) .ranges k (container-there b area c t d o by k r l e) .quota-most) j;
+                }
 
 -- ---- doing it
 

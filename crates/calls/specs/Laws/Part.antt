@@ -1,23 +1,26 @@
--- Calls 12 and 13: the arguments, the place of a part, and the rules' tests 5 to 11 at each way out of the shared judging.
+-- Calls 12 and 13: the arguments, the place of a part, and the rules' tests 5 to 11.
 use Prim.Native.Nat.{ℕ, _+_, _*_, _-_, _<_, _≤_}
 use native.Mathlib.Omega.{arith}
 use mathlib.Core.Bool.{Bool, true, false, _&&_}
-use mathlib.Core.Path.{_≡_, refl, sym, ap, _∙_}
+use mathlib.Core.Path.{_≡_, refl, sym, ap, subst, _∙_}
 use mathlib.Core.List.{List}
 use lib.Dec.{leb}
-use lib.ListN.{length}
-use borrow.Author.Tests.{le-leb, lt-leb, leb-true, leb-false}
-use Rattle.rules.specs.Kernel.{Verdict, must, blockSize, maxBlock}
+use borrow.Author.Tests.{le-leb, lt-leb, leb-true, leb-false, eqb-true}
+use Rattle.rules.specs.Kernel.{segmentCode, Verdict, refuse, must, blockSize, maxBlock}
 use Rattle.rules.specs.Laws.Bools.{and-l, and-r}
 use Rattle.tables.specs.Layout.{View, view, blockCount}
 use Rattle.book.specs.declared.Found.the-variants.{At, Nothing}
-use Rattle.book.specs.Book.{lenOf, isBlock, first, blockAt, worldOf}
+use Rattle.book.specs.declared.find.Entry.the-variants as place
+use Rattle.book.specs.Book.{codeOf, lenOf, isBlock, first, blockAt}
 use Rattle.book.specs.Laws.First.{first-low, on-at, on-nothing}
+use Rattle.calls.specs.declared.Judged.{Judged}
+use Rattle.calls.specs.Outcome.{Means}
 use Rattle.calls.specs.Begun.{Caller}
-use Rattle.calls.specs.Access.{Open, Closed}
-use Rattle.calls.specs.Part.{partOn, Reached, Beyond}
-use Rattle.calls.specs.Laws.Access.{segment-length}
-use Rattle.calls.specs.Laws.Prelude.{must-passed, must-failed}
+use Rattle.calls.specs.Lookup.{openEntry}
+use Rattle.calls.specs.Part.{partOn, Lies, partAt}
+use Rattle.calls.specs.Laws.Access.{access-five, access-at, segment-length}
+use Rattle.calls.specs.Laws.Entry.{object-found}
+use Rattle.calls.specs.Laws.Tested.{means-tested}
 
 -- ---- "block k up to 253, from, count; from + count ≤ 64"
 
@@ -59,33 +62,21 @@ module _ (v : View) (r k f : ℕ) where
   unfolding blockAt
   place-nowhere e = omega (arith, on-nothing (first blockCount (isBlock v r k)) (λ b. b) 0 e)
 
--- ---- the tests
+-- ---- the verdict
 
-module _ (b : List ℕ) (t d s k f n : ℕ) (writes : Bool) where
-  -- what 12 to 14 share refuses
-  pub closed-beyond : (m : ℕ) → Closed b t d s writes m → Beyond b t d s k f n writes m
-  closed-beyond m x = record { later = x .later; refused = λ area c by rest. x .refused area c by _ }
+-- It is found from a verdict that comes to `rest` where the part lies in the segment, that what is answered of the rows means it.
+module _ (b area : List ℕ) (c t d s k f n : ℕ) (by : Caller b area c t) (writes : Bool) (one : f + n ≤ blockSize) (v rest : Verdict) (on : v ≡ partOn b area c d s k f n writes rest) where
+  -- no entry: 5
+  pub part-five : openEntry (view b) t d s ≡ place.Nothing → v ≡ refuse 5
+  part-five e = on ∙ access-five b area c t d s by writes _ e
 
-  -- l is the segment's length
-  module _ (r : ℕ) (o : Open b t d s writes r) (l : ℕ) (el : l ≡ lenOf (view b) r) where
-    from-last : (area : List ℕ) (c : ℕ) → Caller b area c t → (rest : Verdict)
-        → partOn b area c d s k f n writes rest ≡ must (leb (blockSize * k + f + n) (length ((worldOf (view b) area .obj s) .bytes))) 11 rest
-    from-last area c by rest = o .passes area c by _
-
-    length-is : (area : List ℕ) → leb (blockSize * k + f + n) (length ((worldOf (view b) area .obj s) .bytes)) ≡ leb (blockSize * k + f + n) l
-    length-is area = ap (leb (blockSize * k + f + n)) (segment-length b area s r (o .row) (o .code) ∙ sym el)
-
-    -- bytes beyond the segment's length: 11
-    pub end-beyond : l < blockSize * k + f + n → Beyond b t d s k f n writes 11
-    end-beyond h =
-        record {
-          later = omega arith;
-          refused = λ area c by rest. from-last area c by rest ∙ must-failed _ 11 _ (length-is area ∙ lt-leb (blockSize * k + f + n) l h);
-        }
-
-    pub reached : blockSize * k + f + n ≤ l → f + n ≤ blockSize → (p : ℕ) → p ≡ blockSize * blockAt (view b) r k + f → Reached b t d s k f n writes p
-    reached h one p e =
-        record {
-          lies = record { at-row = r; row = o .row; code = o .code; place = e; within = omega (arith, h, el); one = one };
-          passes = λ area c by rest. from-last area c by rest ∙ must-passed _ 11 _ (length-is area ∙ le-leb (blockSize * k + f + n) l h);
-        }
+  pub part-judged : (go : ℕ → ℕ → ℕ → Type 0) → ((p : ℕ) → Lies b s k f n p → v ≡ rest → go p 0 0)
+      → (h r l : ℕ) → openEntry (view b) t d s ≡ place.In h r l → (x : Judged) → x ≡ partAt (view b) t r k f n writes → Means b area v go x
+  part-judged go granted h r l e x ex =
+      let row = object-found b area c t d s by h r l e in
+      subst (Means b area v go) (sym ex)
+      (means-tested b area (by .ready) go v _ 6 _ _ (omega arith) (on ∙ access-at b area c t d s by writes _ h r l e)
+      (λ g6 e6. let code = eqb-true (codeOf (view b) r) segmentCode g6 in
+      means-tested b area (by .ready) go v _ 7 _ _ (omega arith) e6
+      (λ g7 e7. means-tested b area (by .ready) go v _ 11 _ _ (omega arith) (e7 ∙ ap (λ (m : ℕ). must (leb (blockSize * k + f + n) m) 11 rest) (segment-length b area s r row code))
+      (λ g11 e11. (by .ready, granted _ (record { at-row = r; row = row; code = code; place = refl; within = leb-true (blockSize * k + f + n) (lenOf (view b) r) g11; one = one }) e11)))))

@@ -15,12 +15,16 @@ use Rattle.book.specs.Enact.{movedOn, enactView, enactArea}
 use Rattle.book.specs.Laws.First.{on-at}
 use Rattle.book.specs.Laws.Tie.{row-is}
 use Rattle.book.specs.Laws.Write.{part-low, read-part}
-use Rattle.calls.specs.Outcome.{verdictOn, Ready}
+use Rattle.book.specs.declared.find.Entry.the-variants as place
+use Rattle.calls.specs.declared.Judged.{Judged}
+use Rattle.calls.specs.Outcome.{verdictOn, Means, Ready}
 use Rattle.calls.specs.Begun.{Caller}
-use Rattle.calls.specs.Part.{partOn, Reached, Beyond}
+use Rattle.calls.specs.Lookup.{openEntry}
+use Rattle.calls.specs.Part.{partOn, partAt}
 use Rattle.calls.specs.Read.{ToRead, PartAt, NoPart, placeIn, beginsAt, Shown}
 use Rattle.calls.specs.Laws.Access.{segment-bytes}
 use Rattle.calls.specs.Laws.Begun.{caller-four, caller-judged, placed-by-caller}
+use Rattle.calls.specs.Laws.Part.{part-fits, part-five, part-judged}
 use Rattle.calls.specs.Laws.Prelude.{area-long, done-stopped, done-refused, done-granted}
 
 module _ (b area : List ℕ) (c t d s k f n : ℕ) (by : Caller b area c t) where
@@ -35,25 +39,27 @@ module _ (b area : List ℕ) (c t d s k f n : ℕ) (by : Caller b area c t) wher
     unfolding judge goodArguments
     judged = caller-judged b area c t by (read d s k f n) good
 
-    -- what 12 and 13 share refuses
-    pub beyond-no : (m : ℕ) → Beyond b t d s k f n false m → verdictOn b area c (read d s k f n) ≡ refuse m
-    beyond-no m x = judged ∙ x .refused area c by _
+    -- no entry: 5
+    pub none-five : openEntry (view b) t d s ≡ place.Nothing → verdictOn b area c (read d s k f n) ≡ refuse 5
+    none-five = part-five b area c t d s k f n by false (part-fits k f n good) _ _ judged
 
-    -- granted
-    pub to-read : (p : ℕ) → Reached b t d s k f n false p → ToRead b area c d s k f n p 0 0
-    to-read p x =
-        let r = x .lies .at-row in
+    -- one that is found: what 12 and 13 share decides
+    pub read-judged : (h r l : ℕ) → openEntry (view b) t d s ≡ place.In h r l → (x : Judged) → x ≡ partAt (view b) t r k f n false
+        → Means b area (verdictOn b area c (read d s k f n)) (ToRead b area c d s k f n) x
+    read-judged =
+        part-judged b area c t d s k f n by false (part-fits k f n good) _ _ judged (ToRead b area c d s k f n)
+        (λ p lies e.
+        let r = lies .at-row in
         record {
-          lies = x .lies;
+          lies = lies;
           granted =
-              judged
-              ∙ x .passes area c by _
-              ∙ ap (λ (y : List ℕ). grant 0 (take n (drop (blockSize * k + f) y)) keep) (segment-bytes b area s r (x .lies .row) (x .lies .code))
+              e
+              ∙ ap (λ (y : List ℕ). grant 0 (take n (drop (blockSize * k + f) y)) keep) (segment-bytes b area s r (lies .row) (lies .code))
               ∙ ap (λ (y : List ℕ). grant 0 y keep)
-              (read-part (view b) (placed-by-caller b area c t by) r (row-is (view b) s r (x .lies .row) .0) (x .lies .code) k f area
-              (area-long b area (by .ready .areas)) n (x .lies .one) (x .lies .within)
-              ∙ ap (λ (q : ℕ). take n (drop q area)) (sym (x .lies .place)));
-        }
+              (read-part (view b) (placed-by-caller b area c t by) r (row-is (view b) s r (lies .row) .0) (lies .code) k f area
+              (area-long b area (by .ready .areas)) n (lies .one) (lies .within)
+              ∙ ap (λ (q : ℕ). take n (drop q area)) (sym (lies .place)));
+        })
 
 -- ---- as numbers
 

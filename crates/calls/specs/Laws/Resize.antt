@@ -1,15 +1,18 @@
 -- Call 14: the verdict at each way out of its judging, and what it does.
 use Prim.Native.Nat.{ℕ, _<_, _≤_}
 use native.Mathlib.Omega.{arith}
-use mathlib.Core.Bool.{true}
-use mathlib.Core.Path.{_≡_, sym, ap, subst, _∙_}
+use mathlib.Core.Bool.{true, false}
+use mathlib.Core.Path.{_≡_, sym, ap, ap₂, subst, _∙_}
 use mathlib.Core.List.{List, []}
 use lib.ListN.{length}
 use lib.Dec.{leb}
-use borrow.Author.Tests.{le-leb, lt-leb}
+use borrow.Author.Tests.{eq-eqb, ne-eqb, le-leb, lt-leb}
+use Rattle.labels.specs.Core.{mayWrite}
 use Rattle.rules.specs.Kernel.{segmentCode, refuse, grant, must, judge, resize, resized, alter, rewrite, units, goodArguments, maxLength, lastNumber}
 use Rattle.tables.specs.Layout.{View, view, size, rowCount}
-use Rattle.book.specs.Book.{nextOf, codeOf, quotaOf, bytesOf, worldOf}
+use Rattle.book.specs.declared.Found.the-variants.{At}
+use Rattle.book.specs.declared.find.Entry.the-variants as place
+use Rattle.book.specs.Book.{nextOf, codeOf, quotaOf, labelOf, bytesOf, rowOf, worldOf}
 use Rattle.book.specs.Enact.{areaSize, movedOn, lengthened, areaAfter, enactView, enactArea}
 use Rattle.book.specs.Sound.{Sound}
 use Rattle.book.specs.Laws.Lengthened.{lengthened-is}
@@ -19,10 +22,13 @@ use Rattle.book.specs.Laws.Tie.{row-is}
 use Rattle.calls.specs.declared.Answer.the-variants.{Granted}
 use Rattle.calls.specs.Outcome.{verdictOn, Ready, Done}
 use Rattle.calls.specs.Begun.{Caller}
-use Rattle.calls.specs.Access.{accessOn, Open, Closed}
+use Rattle.calls.specs.Access.{accessOn}
+use Rattle.calls.specs.Lookup.{openEntry}
 use Rattle.calls.specs.Resize.{ToResize}
-use Rattle.calls.specs.Laws.Access.{open-low, segment-quota, segment-bytes}
+use Rattle.calls.specs.Laws.Access.{access-five, access-at, open-low, segment-quota, segment-bytes}
 use Rattle.calls.specs.Laws.Begun.{caller-four, caller-judged}
+use Rattle.calls.specs.Laws.Conditions.{writing-only}
+use Rattle.calls.specs.Laws.Entry.{object-found}
 use Rattle.calls.specs.Laws.Prelude.{must-passed, must-failed, book-long, area-long, book-sound, done-granted}
 
 module _ (b area : List ℕ) (c t d s n : ℕ) (by : Caller b area c t) where
@@ -39,38 +45,58 @@ module _ (b area : List ℕ) (c t d s n : ℕ) (by : Caller b area c t) where
     unfolding judge goodArguments
     judged = caller-judged b area c t by (resize d s n) (le-leb n maxLength h)
 
-    -- what 12 to 14 share refuses
-    pub closed-no : (k : ℕ) → Closed b t d s true k → verdictOn b area c (resize d s n) ≡ refuse k
-    closed-no k x = judged ∙ x .refused area c by _
+    -- no entry: 5
+    pub none-five : openEntry (view b) t d s ≡ place.Nothing → verdictOn b area c (resize d s n) ≡ refuse 5
+    none-five e = judged ∙ access-five b area c t d s by true _ e
 
-    -- q is the segment's quota, m what the new length uses
-    module _ (r : ℕ) (o : Open b t d s true r) (q m : ℕ) (eq : q ≡ quotaOf (view b) r) (em : m ≡ units n) where
-      from-last : verdictOn b area c (resize d s n)
-          ≡ must (leb (units n) ((worldOf (view b) area .obj s) .quota)) 13
-          (grant 0 [] (alter s (rewrite (resized n ((worldOf (view b) area .obj s) .bytes)))))
-      from-last = judged ∙ o .passes area c by _
+    -- i is the code of the object's kind
+    module _ (k r l : ℕ) (e : openEntry (view b) t d s ≡ place.In k r l) (i : ℕ) (ei : i ≡ codeOf (view b) r) where
+      -- no segment: 6
+      pub kind-six : (i ≡ segmentCode → ⊥) → verdictOn b area c (resize d s n) ≡ refuse 6
+      kind-six g = judged ∙ access-at b area c t d s by true _ k r l e ∙ must-failed _ 6 _ (ne-eqb (codeOf (view b) r) segmentCode (λ z. g (ei ∙ z)))
 
-      -- not enough spare: 13
-      pub spare-thirteen : q < m → verdictOn b area c (resize d s n) ≡ refuse 13
-      spare-thirteen l =
-          from-last ∙ must-failed _ 13 _ (ap (leb (units n)) (segment-quota b area s r (o .row)) ∙ lt-leb (units n) (quotaOf (view b) r) (omega (arith, eq, em, l)))
+      module _ (g : i ≡ segmentCode) where
+        code : codeOf (view b) r ≡ segmentCode
+        code = sym ei ∙ g
 
-      within : m ≤ q → units n ≤ quotaOf (view b) r
-      within l = omega (arith, eq, em, l)
+        row : rowOf (view b) s ≡ At r
+        row = object-found b area c t d s by k r l e
 
-      -- granted
-      pub to-resize : m ≤ q → ToResize b area c d s n r 0 0
-      to-resize l =
-          record {
-            granted =
-                from-last
-                ∙ must-passed _ 13 _ (ap (leb (units n)) (segment-quota b area s r (o .row)) ∙ le-leb (units n) (quotaOf (view b) r) (within l))
-                ∙ ap (λ (x : List ℕ). grant 0 [] (alter s (rewrite (resized n x)))) (segment-bytes b area s r (o .row) (o .code));
-            row = o .row;
-            code = o .code;
-            most = h;
-            fits = within l;
-          }
+        from-seven : verdictOn b area c (resize d s n)
+            ≡ must (mayWrite (labelOf (view b) t) (labelOf (view b) r)) 7
+            (must (leb (units n) (quotaOf (view b) r)) 13
+            (grant 0 [] (alter s (rewrite (resized n (bytesOf (view b) area r))))))
+        from-seven =
+            judged
+            ∙ access-at b area c t d s by true _ k r l e
+            ∙ must-passed _ 6 _ (eq-eqb (codeOf (view b) r) segmentCode code)
+            ∙ (λ j. must (writing-only (labelOf (view b) t) (labelOf (view b) r) j) 7
+            (must (leb (units n) (segment-quota b area s r row j)) 13
+            (grant 0 [] (alter s (rewrite (resized n (segment-bytes b area s r row code j)))))))
+
+        -- not writable: 7
+        pub write-seven : mayWrite (labelOf (view b) t) (labelOf (view b) r) ≡ false → verdictOn b area c (resize d s n) ≡ refuse 7
+        write-seven w = from-seven ∙ must-failed _ 7 _ w
+
+        -- q is the segment's quota, m what the new length uses
+        module _ (w : mayWrite (labelOf (view b) t) (labelOf (view b) r) ≡ true) (q m : ℕ) (eq : q ≡ quotaOf (view b) r) (em : m ≡ units n) where
+          fits-is : leb (units n) (quotaOf (view b) r) ≡ leb m q
+          fits-is = ap₂ leb (sym em) (sym eq)
+
+          -- not enough spare: 13
+          pub spare-thirteen : q < m → verdictOn b area c (resize d s n) ≡ refuse 13
+          spare-thirteen o = from-seven ∙ must-passed _ 7 _ w ∙ must-failed _ 13 _ (fits-is ∙ lt-leb m q o)
+
+          -- granted
+          pub to-resize : m ≤ q → ToResize b area c d s n r 0 0
+          to-resize o =
+              record {
+                granted = from-seven ∙ must-passed _ 7 _ w ∙ must-passed _ 13 _ (fits-is ∙ le-leb m q o);
+                row = row;
+                code = code;
+                most = h;
+                fits = omega (arith, eq, em, o);
+              }
 
 -- ---- doing it
 

@@ -4,22 +4,21 @@ use mathlib.Core.Bool.{true, false}
 use mathlib.Core.Path.{_≡_, refl, ap, ap₂, _∙_}
 use mathlib.Core.List.{List, []}
 use lib.ListN.{length}
-use Rattle.labels.specs.Core.{mayRead, mayWrite}
+use Rattle.labels.specs.Core.{mayWrite}
 use Rattle.rules.specs.Kernel.{refuse, grant, must, judge, entry, allHold, writing, unreference, cut, goodArguments}
 use Rattle.tables.specs.Layout.{view}
-use Rattle.book.specs.Book.{idOf, labelOf, worldOf}
+use Rattle.book.specs.Book.{labelOf, worldOf}
 use Rattle.book.specs.Cut.{cutAt, Cutting}
 use Rattle.book.specs.Enact.{enactView, enactArea}
 use Rattle.book.specs.declared.find.Entry.the-variants as place
-use Rattle.book.specs.Find.{entryPlace}
-use Rattle.book.specs.Laws.Find.{Entered, entry-found}
 use Rattle.calls.specs.declared.Answer.the-variants.{Granted}
 use Rattle.calls.specs.Outcome.{verdictOn, Ready, Done}
 use Rattle.calls.specs.Begun.{Caller}
+use Rattle.calls.specs.Lookup.{openEntry}
 use Rattle.calls.specs.Unreference.{ToCut}
 use Rattle.calls.specs.Laws.Begun.{caller-judged, caller-label}
 use Rattle.calls.specs.Laws.Conditions.{writing-only}
-use Rattle.calls.specs.Laws.Entry.{no-entry, opened, container-label}
+use Rattle.calls.specs.Laws.Entry.{no-entry, is-entry, link-there, link-from, link-to, container-label}
 use Rattle.calls.specs.Laws.Prelude.{must-passed, must-failed, book-long, area-long, book-sound, done-granted}
 
 module _ (b area : List ℕ) (c t d o : ℕ) (by : Caller b area c t) where
@@ -30,36 +29,28 @@ module _ (b area : List ℕ) (c t d o : ℕ) (by : Caller b area c t) where
   judged = caller-judged b area c t by (unreference d o) refl
 
   -- no entry: 5
-  pub none-five : entryPlace (view b) d o ≡ place.Nothing → verdictOn b area c (unreference d o) ≡ refuse 5
+  pub none-five : openEntry (view b) t d o ≡ place.Nothing → verdictOn b area c (unreference d o) ≡ refuse 5
   none-five e = judged ∙ must-failed _ 5 _ (no-entry b area c t d o by e)
 
-  module _ (k r l : ℕ) (e : entryPlace (view b) d o ≡ place.In k r l) where
-    in-it : Entered (view b) area d o k r l
-    in-it = entry-found (view b) d o area k r l e
-
+  module _ (k r l : ℕ) (e : openEntry (view b) t d o ≡ place.In k r l) where
     writable : allHold (writing ((worldOf (view b) area .obj c) .label) ((worldOf (view b) area .obj d) .label)) ≡ mayWrite (labelOf (view b) t) (labelOf (view b) k)
     writable =
         writing-only _ _
         ∙ ap₂ mayWrite (caller-label b area c t by) (container-label b area c t d o by k r l e)
 
-    -- an unreadable container: 5
-    pub shut-five : mayRead (labelOf (view b) t) (labelOf (view b) k) ≡ false → verdictOn b area c (unreference d o) ≡ refuse 5
-    shut-five f = judged ∙ must-failed _ 5 _ (opened b area c t d o by k r l e ∙ f)
+    -- not writable: 7
+    pub write-seven : mayWrite (labelOf (view b) t) (labelOf (view b) k) ≡ false → verdictOn b area c (unreference d o) ≡ refuse 7
+    write-seven g = judged ∙ (must-passed _ 5 _ (is-entry b area c t d o by k r l e) ∙ must-failed _ 7 _ (writable ∙ g))
 
-    module _ (f : mayRead (labelOf (view b) t) (labelOf (view b) k) ≡ true) where
-      -- not writable: 7
-      pub write-seven : mayWrite (labelOf (view b) t) (labelOf (view b) k) ≡ false → verdictOn b area c (unreference d o) ≡ refuse 7
-      write-seven g = judged ∙ (must-passed _ 5 _ (opened b area c t d o by k r l e ∙ f) ∙ must-failed _ 7 _ (writable ∙ g))
-
-      -- granted
-      pub to-cut : mayWrite (labelOf (view b) t) (labelOf (view b) k) ≡ true → ToCut b area c d o l 0 0
-      to-cut g =
-          record {
-            granted = judged ∙ (must-passed _ 5 _ (opened b area c t d o by k r l e ∙ f) ∙ must-passed _ 7 _ (writable ∙ g));
-            link-on = in-it .link-on;
-            from-id = ap (idOf (view b)) (in-it .link-from) ∙ in-it .container-id;
-            to-id = ap (idOf (view b)) (in-it .link-to) ∙ in-it .object-id;
-          }
+    -- granted
+    pub to-cut : mayWrite (labelOf (view b) t) (labelOf (view b) k) ≡ true → ToCut b area c d o l 0 0
+    to-cut g =
+        record {
+          granted = judged ∙ (must-passed _ 5 _ (is-entry b area c t d o by k r l e) ∙ must-passed _ 7 _ (writable ∙ g));
+          link-on = link-there b area c t d o by k r l e;
+          from-id = link-from b area c t d o by k r l e;
+          to-id = link-to b area c t d o by k r l e;
+        }
 
 -- ---- doing it
 

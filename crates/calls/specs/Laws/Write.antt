@@ -17,12 +17,16 @@ use Rattle.book.specs.Laws.Tie.{row-is}
 use Rattle.book.specs.Laws.WorldSound.{placed}
 use Rattle.book.specs.Laws.Write.{part-low, write-view, write-enacted}
 use Rattle.calls.specs.declared.Answer.the-variants.{Granted}
-use Rattle.calls.specs.Outcome.{verdictOn, Ready, Done}
+use Rattle.book.specs.declared.find.Entry.the-variants as place
+use Rattle.calls.specs.declared.Judged.{Judged}
+use Rattle.calls.specs.Outcome.{verdictOn, Means, Ready, Done}
 use Rattle.calls.specs.Begun.{Caller}
-use Rattle.calls.specs.Part.{partOn, Reached, Beyond}
+use Rattle.calls.specs.Lookup.{openEntry}
+use Rattle.calls.specs.Part.{partOn, partAt}
 use Rattle.calls.specs.Write.{ToWrite}
 use Rattle.calls.specs.Laws.Access.{segment-bytes}
 use Rattle.calls.specs.Laws.Begun.{caller-four, caller-judged}
+use Rattle.calls.specs.Laws.Part.{part-fits, part-five, part-judged}
 use Rattle.calls.specs.Laws.Prelude.{book-sound, area-long, done-granted}
 
 -- ---- three tests of which the first two are made as one
@@ -59,21 +63,23 @@ module _ (b area : List ℕ) (c t d s k f n : ℕ) (bytes : List ℕ) (by : Call
           caller-judged b area c t by (write d s k f n bytes)
           (good-more (leb k maxBlock) (leb (f + n) blockSize) (eqb (length bytes) n) good ∙ eq-eqb (length bytes) n long)
 
-      -- what 12 and 13 share refuses
-      pub beyond-no : (m : ℕ) → Beyond b t d s k f n true m → verdictOn b area c (write d s k f n bytes) ≡ refuse m
-      beyond-no m x = judged ∙ x .refused area c by _
+      -- no entry: 5
+      pub none-five : openEntry (view b) t d s ≡ place.Nothing → verdictOn b area c (write d s k f n bytes) ≡ refuse 5
+      none-five = part-five b area c t d s k f n by true (part-fits k f n good) _ _ judged
 
-      -- granted
-      pub to-write : (p : ℕ) → Reached b t d s k f n true p → ToWrite b area c d s k f n bytes p 0 0
-      to-write p x =
+      -- one that is found: what 12 and 13 share decides
+      pub write-judged : (h r l : ℕ) → openEntry (view b) t d s ≡ place.In h r l → (x : Judged) → x ≡ partAt (view b) t r k f n true
+          → Means b area (verdictOn b area c (write d s k f n bytes)) (ToWrite b area c d s k f n bytes) x
+      write-judged =
+          part-judged b area c t d s k f n by true (part-fits k f n good) _ _ judged (ToWrite b area c d s k f n bytes)
+          (λ p lies e.
           record {
-            lies = x .lies;
+            lies = lies;
             granted =
-                judged
-                ∙ x .passes area c by _
-                ∙ ap (λ (y : List ℕ). grant 0 [] (alter s (rewrite (overwrite (blockSize * k + f) bytes y)))) (segment-bytes b area s (x .lies .at-row) (x .lies .row) (x .lies .code));
+                e
+                ∙ ap (λ (y : List ℕ). grant 0 [] (alter s (rewrite (overwrite (blockSize * k + f) bytes y)))) (segment-bytes b area s (lies .at-row) (lies .row) (lies .code));
             long = long;
-          }
+          })
 
 -- ---- doing it
 

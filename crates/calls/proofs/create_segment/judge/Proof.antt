@@ -6,7 +6,8 @@ use Rattle.calls.specs.Begun.{BegunAs}
 use Rattle.calls.specs.Laws.Arguments.{good-long}
 use Rattle.calls.specs.Laws.Prelude.{book-long}
 use Rattle.calls.specs.Laws.Begun.{stopped-verdict, nobody-verdict, caller-low, sound-by-caller}
-use Rattle.calls.specs.Laws.CreateSegment.{segment-four, segment-judged}
+use Rattle.calls.specs.Laws.Lookup.{holder-there}
+use Rattle.calls.specs.Laws.CreateSegment.{segment-four, segment-five, segment-judged}
 use borrow.Author.Needs.{needs}
 use Rattle.calls.proofs.create_segment.judge.Statement.{statement}
 use Rattle.calls.proofs.create_segment.judge.Tie as tie
@@ -40,26 +41,58 @@ good-arguments-requires c κs = search needs
 returns-3 : tie.Need-returns-3
 returns-3 c =
     let by = subst (BegunAs _ _ _) (c .before .before .before .before .t .given .1) (c .before .before .before .before .before .before .begin .ensures) in
-    segment-four _ _ _ _ _ _ _ _ by _ (c .before .before .next-of .ensures) (sym (c .before .good-arguments .ensures) ∙ not-true (c .before .good-arguments .result) (c .if1 .taken))
+    let bad = sym (c .before .good-arguments .ensures) ∙ not-true (c .before .good-arguments .result) (c .if1 .taken) in
+    segment-four _ _ _ _ _ _ (c .before .before .before .before .before .before .before .before .before .before .before .args .d) _ by _ (c .before .before .next-of .ensures) bad
+
+open-container-requires : tie.Need-open-container-requires
+open-container-requires c κs =
+    let by = subst (BegunAs _ _ _) (c .before .before .before .before .t .given .1) (c .before .before .before .before .before .before .begin .ensures) in
+    (book-long _ _ (by .ready .areas), caller-low _ _ _ _ by)
+
+enum-known-container : tie.Need-enum-known-container
+enum-known-container c = search needs
+
+enum-told-2 : tie.Need-enum-told-2
+enum-told-2 c = search needs
+
+returns-4 : tie.Need-returns-4
+returns-4 c =
+    let by = subst (BegunAs _ _ _) (c .before .before .before .before .before .before .before .t .given .1)
+    (c .before .before .before .before .before .before .before .before .before .begin .ensures) in
+    let good = sym (c .before .before .before .before .good-arguments .ensures) ∙ not-false (c .before .before .before .before .good-arguments .result)
+    (c .before .before .before .if1 .left) in
+    segment-five _ _ _ _ _ _ (c .before .before .before .before .before .before .before .before .before .before .before .before .before .before .args .d) _ by _
+    (c .before .before .before .before .before .next-of .ensures) good (sym (c .before .before .open-container .ensures) ∙ c .enum-told2 .given .1)
 
 plain-allowed-requires : tie.Need-plain-allowed-requires
 plain-allowed-requires c κs =
-    let by = subst (BegunAs _ _ _) (c .before .before .before .before .t .given .1) (c .before .before .before .before .before .before .begin .ensures) in
-    (book-long _ _ (by .ready .areas), caller-low _ _ _ _ by, good-long _ _ _ (and-l _ _ (sym (c .before .good-arguments .ensures) ∙ not-false (c .before .good-arguments .result) (c .if1 .left))))
+    let by = subst (BegunAs _ _ _) (c .before .before .before .before .before .before .before .before .t .given .1)
+    (c .before .before .before .before .before .before .before .before .before .before .begin .ensures) in
+    let good = sym (c .before .before .before .before .before .good-arguments .ensures) ∙ not-false (c .before .before .before .before .before .good-arguments .result)
+    (c .before .before .before .before .if1 .left) in
+    (book-long _ _ (by .ready .areas), caller-low _ _ _ _ by, good-long _ _ _ (and-l _ _ good))
 
 or-default-requires : tie.Need-or-default-requires
 or-default-requires c κs = search needs
 
 admit-requires : tie.Need-admit-requires
 admit-requires c κs =
-    let by = subst (BegunAs _ _ _) (c .before .before .before .before .before .before .t .given .1) (c .before .before .before .before .before .before .before .before .begin .ensures) in
-    (book-long _ _ (by .ready .areas), sound-by-caller _ _ _ _ by, caller-low _ _ _ _ by, omega arith)
+    let by = subst (BegunAs _ _ _) (c .before .before .before .before .before .before .before .before .before .before .t .given .1)
+    (c .before .before .before .before .before .before .before .before .before .before .before .before .begin .ensures) in
+    let there = holder-there _ _ _ _ _ by _ (sym (c .before .before .before .before .before .open-container .ensures) ∙ c .before .before .before .container .given .1) in
+    (book-long _ _ (by .ready .areas), sound-by-caller _ _ _ _ by, caller-low _ _ _ _ by, there, omega arith)
 
-returns-4 : tie.Need-returns-4
-returns-4 c =
-    let by = subst (BegunAs _ _ _) (c .before .before .before .before .before .before .before .t .given .1) (c .before .before .before .before .before .before .before .before .before .begin .ensures) in
-    segment-judged _ _ _ _ _ _ (c .before .before .before .before .before .before .before .before .before .before .before .before .before .before .args .d) _ by _ (c .before .before .before .before .before .next-of .ensures) (sym (c .before .before .before .before .good-arguments .ensures) ∙ not-false (c .before .before .before .before .good-arguments .result) (c .before .before .before .if1 .left))
-    _ (c .before .before .plain-allowed .ensures) _ (c .before .or-default .ensures) (c .admit .result) (c .admit .ensures)
+returns-5 : tie.Need-returns-5
+returns-5 c =
+    let by = subst (BegunAs _ _ _) (c .before .before .before .before .before .before .before .before .before .before .before .t .given .1)
+    (c .before .before .before .before .before .before .before .before .before .before .before .before .before .begin .ensures) in
+    let good = sym (c .before .before .before .before .before .before .before .before .good-arguments .ensures) ∙ not-false
+    (c .before .before .before .before .before .before .before .before .good-arguments .result) (c .before .before .before .before .before .before .before .if1 .left) in
+    segment-judged _ _ _ _ _ _
+    (c .before .before .before .before .before .before .before .before .before .before .before .before .before .before .before .before .before .before .args .d) _ by _
+    (c .before .before .before .before .before .before .before .before .before .next-of .ensures) good
+    _ (sym (c .before .before .before .before .before .before .open-container .ensures) ∙ c .before .before .before .before .container .given .1) _
+    (c .before .before .plain-allowed .ensures) _ (c .before .or-default .ensures) (c .admit .result) (c .admit .ensures)
 
 pub judge-spec : {M : Type 1} → statement M
 judge-spec =
@@ -74,7 +107,11 @@ judge-spec =
     next-of-requires
     good-arguments-requires
     returns-3
+    open-container-requires
+    enum-known-container
+    enum-told-2
+    returns-4
     plain-allowed-requires
     or-default-requires
     admit-requires
-    returns-4)
+    returns-5)

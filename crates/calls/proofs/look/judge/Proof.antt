@@ -1,12 +1,10 @@
-use mathlib.Core.Path.{sym, ap₂, subst, _∙_}
-use borrow.Author.Needs.{needs}
-use borrow.Author.Tests.{not-true, not-false}
 use native.Mathlib.Omega.{arith}
+use mathlib.Core.Path.{sym, subst, _∙_}
 use Rattle.calls.specs.Begun.{BegunAs}
 use Rattle.calls.specs.Laws.Prelude.{book-long}
 use Rattle.calls.specs.Laws.Begun.{stopped-verdict, nobody-verdict, caller-low}
-use Rattle.labels.specs.Core.{mayRead}
-use Rattle.calls.specs.Laws.Look.{look-four, look-missing, look-container-low, look-shut, to-look}
+use Rattle.calls.specs.Laws.Look.{look-four, look-five, to-look}
+use borrow.Author.Needs.{needs}
 use Rattle.calls.proofs.look.judge.Statement.{statement}
 use Rattle.calls.proofs.look.judge.Tie as tie
 
@@ -35,10 +33,10 @@ returns-3 c =
     let by = subst (BegunAs _ _ _) (c .before .before .t .given .1) (c .before .before .before .before .begin .ensures) in
     (look-four _ _ _ _ _ _ _ by (c .if1 .taken), omega arith, by .ready)
 
-place-of-requires : tie.Need-place-of-requires
-place-of-requires c κs =
+open-look-requires : tie.Need-open-look-requires
+open-look-requires c κs =
     let by = subst (BegunAs _ _ _) (c .before .before .t .given .1) (c .before .before .before .before .begin .ensures) in
-    book-long _ _ (by .ready .areas)
+    (book-long _ _ (by .ready .areas), caller-low _ _ _ _ by)
 
 enum-known-container : tie.Need-enum-known-container
 enum-known-container c = search needs
@@ -49,32 +47,16 @@ enum-told-2 c = search needs
 returns-4 : tie.Need-returns-4
 returns-4 c =
     let by = subst (BegunAs _ _ _) (c .before .before .before .before .before .t .given .1) (c .before .before .before .before .before .before .before .begin .ensures) in
-    (look-missing _ _ _ _ _ _ _ by (c .before .before .before .if1 .left) (sym (c .before .before .place-of .ensures) ∙ c .enum-told2 .given .1), omega arith, by .ready)
-
-label-of-requires : tie.Need-label-of-requires
-label-of-requires c κs =
-    let by = subst (BegunAs _ _ _) (c .before .before .before .before .before .before .t .given .1) (c .before .before .before .before .before .before .before .before .begin .ensures) in
-    (book-long _ _ (by .ready .areas), caller-low _ _ _ _ by)
-
-label-of-requires-2 : tie.Need-label-of-requires-2
-label-of-requires-2 c κs =
-    let by = subst (BegunAs _ _ _) (c .before .before .before .before .before .before .before .t .given .1) (c .before .before .before .before .before .before .before .before .before .begin .ensures) in
-    (book-long _ _ (by .ready .areas), look-container-low _ _ _ _ _ _ _ by (c .before .before .before .before .before .if1 .left) _ _ _ (sym (c .before .before .before .before .place-of .ensures) ∙ c .before .before .container .given .1))
-
-may-read-requires : tie.Need-may-read-requires
-may-read-requires c κs = search needs
+    (look-five _ _ _ _ _ _ _ by (c .before .before .before .if1 .left) (sym (c .before .before .open-look .ensures) ∙ c .enum-told2 .given .1), omega arith, by .ready)
 
 returns-5 : tie.Need-returns-5
 returns-5 c =
-    let by = subst (BegunAs _ _ _) (c .before .before .before .before .before .before .before .before .before .before .t .given .1) (c .before .before .before .before .before .before .before .before .before .before .before .before .begin .ensures) in
-    let r = ap₂ mayRead (sym (c .before .before .before .label-of .ensures)) (sym (c .before .before .label-of2 .ensures)) ∙ sym (c .before .may-read .ensures) in
-    (look-shut _ _ _ _ _ _ _ by (c .before .before .before .before .before .before .before .before .if1 .left) _ _ _ (sym (c .before .before .before .before .before .before .before .place-of .ensures) ∙ c .before .before .before .before .before .container .given .1) (r ∙ not-true (c .before .may-read .result) (c .if2 .taken)), omega arith, by .ready)
-
-returns-6 : tie.Need-returns-6
-returns-6 c =
-    let by = subst (BegunAs _ _ _) (c .before .before .before .before .before .before .before .before .before .before .t .given .1) (c .before .before .before .before .before .before .before .before .before .before .before .before .begin .ensures) in
-    let r = ap₂ mayRead (sym (c .before .before .before .label-of .ensures)) (sym (c .before .before .label-of2 .ensures)) ∙ sym (c .before .may-read .ensures) in
-    (by .ready, to-look _ _ _ _ _ _ _ by (c .before .before .before .before .before .before .before .before .if1 .left) _ _ _ (sym (c .before .before .before .before .before .before .before .place-of .ensures) ∙ c .before .before .before .before .before .container .given .1) (r ∙ not-false (c .before .may-read .result) (c .if2 .left)))
+    let by = subst (BegunAs _ _ _) (c .before .before .before .before .before .before .t .given .1)
+    (c .before .before .before .before .before .before .before .before .begin .ensures) in (
+      by .ready,
+      to-look _ _ _ _ _ _ _ by (c .before .before .before .before .if1 .left) _ _ _ (sym (c .before .before .before .open-look .ensures)
+          ∙ c .before .container .given .1),
+    )
 
 pub judge-spec : {M : Type 1} → statement M
 judge-spec =
@@ -87,12 +69,8 @@ judge-spec =
     enum-known-k
     returns-2
     returns-3
-    place-of-requires
+    open-look-requires
     enum-known-container
     enum-told-2
     returns-4
-    label-of-requires
-    label-of-requires-2
-    may-read-requires
-    returns-5
-    returns-6)
+    returns-5)

@@ -2,11 +2,11 @@ use native.Mathlib.Omega.{arith}
 use mathlib.Core.Path.{sym, subst, _∙_}
 use borrow.Author.Tests.{not-true, not-false}
 use Rattle.calls.specs.Begun.{BegunAs}
-use Rattle.calls.specs.Part.{Parted}
-use Rattle.calls.specs.Laws.Begun.{stopped-verdict, nobody-verdict, caller-low}
-use Rattle.calls.specs.Laws.Part.{block-fits, part-fits}
 use Rattle.calls.specs.Laws.Prelude.{book-long}
-use Rattle.calls.specs.Laws.Read.{part-four, beyond-no, to-read}
+use Rattle.calls.specs.Laws.Begun.{stopped-verdict, nobody-verdict, caller-low}
+use Rattle.calls.specs.Laws.Entry.{object-below}
+use Rattle.calls.specs.Laws.Part.{block-fits, part-fits}
+use Rattle.calls.specs.Laws.Read.{part-four, none-five, read-judged}
 use borrow.Author.Needs.{needs}
 use Rattle.calls.proofs.read.judge.Statement.{statement}
 use Rattle.calls.proofs.read.judge.Tie as tie
@@ -39,30 +39,45 @@ returns-3 c =
     let by = subst (BegunAs _ _ _) (c .before .before .before .t .given .1) (c .before .before .before .before .before .begin .ensures) in
     (part-four _ _ _ _ _ _ _ _ _ by (sym (c .before .good-part .ensures) ∙ not-true (c .before .good-part .result) (c .if1 .taken)), omega arith, by .ready)
 
-find-part-requires : tie.Need-find-part-requires
-find-part-requires c κs =
+open-entry-requires : tie.Need-open-entry-requires
+open-entry-requires c κs =
     let by = subst (BegunAs _ _ _) (c .before .before .before .t .given .1) (c .before .before .before .before .before .begin .ensures) in
-    let good = sym (c .before .good-part .ensures) ∙ not-false (c .before .good-part .result) (c .if1 .left) in
-    (book-long _ _ (by .ready .areas), caller-low _ _ _ _ by, block-fits (c .before .before .before .before .before .before .before .before .args .k) (c .before .before .before .before .before .before .before .before .args .from) (c .before .before .before .before .before .before .before .before .args .count) good, part-fits (c .before .before .before .before .before .before .before .before .args .k) (c .before .before .before .before .before .before .before .before .args .from) (c .before .before .before .before .before .before .before .before .args .count) good)
+    (book-long _ _ (by .ready .areas), caller-low _ _ _ _ by)
 
-enum-known-place : tie.Need-enum-known-place
-enum-known-place c = search needs
+enum-known-container : tie.Need-enum-known-container
+enum-known-container c = search needs
 
-enum-known-n-2 : tie.Need-enum-known-n-2
-enum-known-n-2 c = search needs
+enum-told-2 : tie.Need-enum-told-2
+enum-told-2 c = search needs
 
 returns-4 : tie.Need-returns-4
 returns-4 c =
-    let by = subst (BegunAs _ _ _) (c .before .before .before .before .before .before .before .t .given .1) (c .before .before .before .before .before .before .before .before .before .begin .ensures) in
-    let good = sym (c .before .before .before .before .before .good-part .ensures) ∙ not-false (c .before .before .before .before .before .good-part .result) (c .before .before .before .before .if1 .left) in
-    (by .ready, to-read _ _ _ _ _ _ _ _ _ by good _ (subst (Parted _ _ _ _ _ _ _ _) (c .before .place .given .1) (c .before .before .before .find-part .ensures)))
+    let by = subst (BegunAs _ _ _) (c .before .before .before .before .before .before .t .given .1)
+    (c .before .before .before .before .before .before .before .before .begin .ensures) in
+    let good = sym (c .before .before .before .before .good-part .ensures) ∙ not-false (c .before .before .before .before .good-part .result)
+    (c .before .before .before .if1 .left) in
+    (none-five _ _ _ _ _ _ _ _ _ by good (sym (c .before .before .open-entry .ensures) ∙ c .enum-told2 .given .1), omega arith, by .ready)
+
+find-part-requires : tie.Need-find-part-requires
+find-part-requires c κs =
+    let up8 = c .before .before .before .before .before .before .before .before in
+    let by = subst (BegunAs _ _ _) (c .before .before .before .before .before .before .before .t .given .1) (up8 .before .begin .ensures) in
+    let k = up8 .before .before .before .before .args .k in
+    let f = up8 .before .before .before .before .args .from in
+    let n = up8 .before .before .before .before .args .count in
+    let e = sym (c .before .before .before .open-entry .ensures) ∙ c .before .container .given .1 in
+    let good = sym (c .before .before .before .before .before .good-part .ensures) ∙ not-false (c .before .before .before .before .before .good-part .result)
+    (c .before .before .before .before .if1 .left) in
+    (book-long _ _ (by .ready .areas), caller-low _ _ _ _ by, object-below _ _ _ _ _ _ by _ _ _ e, block-fits k f n good, part-fits k f n good)
 
 returns-5 : tie.Need-returns-5
 returns-5 c =
-    let by = subst (BegunAs _ _ _) (c .before .before .before .before .before .before .before .t .given .1) (c .before .before .before .before .before .before .before .before .before .begin .ensures) in
-    let good = sym (c .before .before .before .before .before .good-part .ensures) ∙ not-false (c .before .before .before .before .before .good-part .result) (c .before .before .before .before .if1 .left) in
-    let x = subst (Parted _ _ _ _ _ _ _ _) (c .before .n2 .given .1) (c .before .before .before .find-part .ensures) in
-    (beyond-no _ _ _ _ _ _ _ _ _ by good _ x, x .later, by .ready)
+    let by = subst (BegunAs _ _ _) (c .before .before .before .before .before .before .before .before .t .given .1)
+    (c .before .before .before .before .before .before .before .before .before .before .begin .ensures) in
+    let e = sym (c .before .before .before .before .open-entry .ensures) ∙ c .before .before .container .given .1 in
+    let good = sym (c .before .before .before .before .before .before .good-part .ensures) ∙ not-false (c .before .before .before .before .before .before .good-part .result)
+    (c .before .before .before .before .before .if1 .left) in
+    read-judged _ _ _ _ _ _ _ _ _ by good _ _ _ e (c .find-part .result) (c .find-part .ensures)
 
 pub judge-spec : {M : Type 1} → statement M
 judge-spec =
@@ -76,8 +91,9 @@ judge-spec =
     returns-2
     good-part-requires
     returns-3
-    find-part-requires
-    enum-known-place
-    enum-known-n-2
+    open-entry-requires
+    enum-known-container
+    enum-told-2
     returns-4
+    find-part-requires
     returns-5)

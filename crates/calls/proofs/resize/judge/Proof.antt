@@ -1,11 +1,12 @@
 use native.Mathlib.Omega.{arith}
-use mathlib.Core.Path.{subst}
+use mathlib.Core.Path.{sym, ap₂, subst, _∙_}
+use borrow.Author.Tests.{not-true, not-false}
 use Rattle.calls.specs.Begun.{BegunAs}
-use Rattle.calls.specs.Access.{Accessed}
-use Rattle.calls.specs.Laws.Access.{open-low}
-use Rattle.calls.specs.Laws.Begun.{stopped-verdict, nobody-verdict, caller-low}
 use Rattle.calls.specs.Laws.Prelude.{book-long}
-use Rattle.calls.specs.Laws.Resize.{long-four, closed-no, spare-thirteen, to-resize}
+use Rattle.labels.specs.Core.{mayWrite}
+use Rattle.calls.specs.Laws.Begun.{stopped-verdict, nobody-verdict, caller-low}
+use Rattle.calls.specs.Laws.Entry.{object-below}
+use Rattle.calls.specs.Laws.Resize.{long-four, none-five, kind-six, write-seven, spare-thirteen, to-resize}
 use borrow.Author.Needs.{needs}
 use Rattle.calls.proofs.resize.judge.Statement.{statement}
 use Rattle.calls.proofs.resize.judge.Tie as tie
@@ -35,43 +36,104 @@ returns-3 c =
     let by = subst (BegunAs _ _ _) (c .before .before .t .given .1) (c .before .before .before .before .begin .ensures) in
     (long-four _ _ _ _ _ _ _ by (c .if1 .taken), omega arith, by .ready)
 
-access-requires : tie.Need-access-requires
-access-requires c κs =
+open-entry-requires : tie.Need-open-entry-requires
+open-entry-requires c κs =
     let by = subst (BegunAs _ _ _) (c .before .before .t .given .1) (c .before .before .before .before .begin .ensures) in
     (book-long _ _ (by .ready .areas), caller-low _ _ _ _ by)
 
-enum-known-row : tie.Need-enum-known-row
-enum-known-row c = search needs
+enum-known-container : tie.Need-enum-known-container
+enum-known-container c = search needs
 
-enum-known-k-2 : tie.Need-enum-known-k-2
-enum-known-k-2 c = search needs
+enum-told-2 : tie.Need-enum-told-2
+enum-told-2 c = search needs
 
 returns-4 : tie.Need-returns-4
 returns-4 c =
-    let by = subst (BegunAs _ _ _) (c .before .before .before .before .before .before .t .given .1) (c .before .before .before .before .before .before .before .before .begin .ensures) in
-    let x = subst (Accessed _ _ _ _ _) (c .before .k2 .given .1) (c .before .before .before .access .ensures) in
-    (closed-no _ _ _ _ _ _ _ by (c .before .before .before .before .if1 .left) _ x, x .later, by .ready)
+    let by = subst (BegunAs _ _ _) (c .before .before .before .before .before .t .given .1) (c .before .before .before .before .before .before .before .begin .ensures) in
+    (none-five _ _ _ _ _ _ _ by (c .before .before .before .if1 .left) (sym (c .before .before .open-entry .ensures) ∙ c .enum-told2 .given .1), omega arith, by .ready)
 
-quota-of-requires : tie.Need-quota-of-requires
-quota-of-requires c κs =
-    let by = subst (BegunAs _ _ _) (c .before .before .before .before .before .before .t .given .1) (c .before .before .before .before .before .before .before .before .begin .ensures) in
-    let o = subst (Accessed _ _ _ _ _) (c .before .row .given .1) (c .before .before .before .access .ensures) in
-    (book-long _ _ (by .ready .areas), open-low _ _ _ (o .row))
-
-units-requires : tie.Need-units-requires
-units-requires c κs = c .before .before .before .before .before .if1 .left
+kind-of-requires : tie.Need-kind-of-requires
+kind-of-requires c κs =
+    let by = subst (BegunAs _ _ _) (c .before .before .before .before .before .before .t .given .1)
+    (c .before .before .before .before .before .before .before .before .begin .ensures) in
+    let e = sym (c .before .before .before .open-entry .ensures) ∙ c .before .container .given .1 in
+    (book-long _ _ (by .ready .areas), object-below _ _ _ _ _ _ by _ _ _ e)
 
 returns-5 : tie.Need-returns-5
 returns-5 c =
-    let by = subst (BegunAs _ _ _) (c .before .before .before .before .before .before .before .before .before .t .given .1) (c .before .before .before .before .before .before .before .before .before .before .before .begin .ensures) in
-    let o = subst (Accessed _ _ _ _ _) (c .before .before .before .before .row .given .1) (c .before .before .before .before .before .before .access .ensures) in
-    (spare-thirteen _ _ _ _ _ _ _ by (c .before .before .before .before .before .before .before .if1 .left) _ o _ _ (c .before .before .quota-of .ensures) (c .before .units .ensures) (c .if2 .taken), omega arith, by .ready)
+    let by = subst (BegunAs _ _ _) (c .before .before .before .before .before .before .before .before .t .given .1)
+    (c .before .before .before .before .before .before .before .before .before .before .begin .ensures) in
+    let e = sym (c .before .before .before .before .before .open-entry .ensures) ∙ c .before .before .before .container .given .1 in
+    (kind-six _ _ _ _ _ _ _ by (c .before .before .before .before .before .before .if1 .left) _ _ _ e _ (c .before .kind-of .ensures) (c .if2 .taken), omega arith, by .ready)
+
+label-of-requires : tie.Need-label-of-requires
+label-of-requires c κs =
+    let by = subst (BegunAs _ _ _) (c .before .before .before .before .before .before .before .before .t .given .1)
+    (c .before .before .before .before .before .before .before .before .before .before .begin .ensures) in
+    (book-long _ _ (by .ready .areas), caller-low _ _ _ _ by)
+
+label-of-requires-2 : tie.Need-label-of-requires-2
+label-of-requires-2 c κs =
+    let by = subst (BegunAs _ _ _) (c .before .before .before .before .before .before .before .before .before .t .given .1)
+    (c .before .before .before .before .before .before .before .before .before .before .before .begin .ensures) in
+    let e = sym (c .before .before .before .before .before .before .open-entry .ensures) ∙ c .before .before .before .before .container .given .1 in
+    (book-long _ _ (by .ready .areas), object-below _ _ _ _ _ _ by _ _ _ e)
+
+may-write-requires : tie.Need-may-write-requires
+may-write-requires c κs = search needs
 
 returns-6 : tie.Need-returns-6
 returns-6 c =
-    let by = subst (BegunAs _ _ _) (c .before .before .before .before .before .before .before .before .before .t .given .1) (c .before .before .before .before .before .before .before .before .before .before .before .begin .ensures) in
-    let o = subst (Accessed _ _ _ _ _) (c .before .before .before .before .row .given .1) (c .before .before .before .before .before .before .access .ensures) in
-    (by .ready, to-resize _ _ _ _ _ _ _ by (c .before .before .before .before .before .before .before .if1 .left) _ o _ _ (c .before .before .quota-of .ensures) (c .before .units .ensures) (c .if2 .left))
+    let up8 = c .before .before .before .before .before .before .before .before in
+    let by = subst (BegunAs _ _ _) (up8 .before .before .before .before .t .given .1) (up8 .before .before .before .before .before .before .begin .ensures) in
+    let e = sym (up8 .before .open-entry .ensures) ∙ c .before .before .before .before .before .before .before .container .given .1 in
+    let w = ap₂ mayWrite (sym (c .before .before .before .label-of .ensures)) (sym (c .before .before .label-of2 .ensures)) ∙ sym (c .before .may-write .ensures) in (
+      write-seven _ _ _ _ _ _ _ by (up8 .before .before .if1 .left) _ _ _ e _ (c .before .before .before .before .before .kind-of .ensures)
+          (c .before .before .before .before .if2 .left) (w ∙ not-true (c .before .may-write .result) (c .if3 .taken)),
+      omega arith,
+      by .ready,
+    )
+
+quota-of-requires : tie.Need-quota-of-requires
+quota-of-requires c κs =
+    let up8 = c .before .before .before .before .before .before .before .before in
+    let by = subst (BegunAs _ _ _) (up8 .before .before .before .before .t .given .1) (up8 .before .before .before .before .before .before .begin .ensures) in
+    let e = sym (up8 .before .open-entry .ensures) ∙ c .before .before .before .before .before .before .before .container .given .1 in
+    (book-long _ _ (by .ready .areas), object-below _ _ _ _ _ _ by _ _ _ e)
+
+units-requires : tie.Need-units-requires
+units-requires c κs = c .before .before .before .before .before .before .before .before .before .before .before .if1 .left
+
+returns-7 : tie.Need-returns-7
+returns-7 c =
+    let up8 = c .before .before .before .before .before .before .before .before in
+    let up16 = up8 .before .before .before .before .before .before .before .before in
+    let by = subst (BegunAs _ _ _) (up8 .before .before .before .before .before .before .before .t .given .1) (up16 .before .begin .ensures) in
+    let e = sym (up8 .before .before .before .before .open-entry .ensures) ∙ up8 .before .before .container .given .1 in
+    let w = ap₂ mayWrite (sym (c .before .before .before .before .before .before .label-of .ensures)) (sym (c .before .before .before .before .before .label-of2 .ensures)) ∙ sym
+    (c .before .before .before .before .may-write .ensures) in (
+      spare-thirteen _ _ _ _ _ _ _ by (up8 .before .before .before .before .before .if1 .left) _ _ _ e _ (up8 .kind-of .ensures)
+          (c .before .before .before .before .before .before .before .if2 .left) (w ∙ not-false (c .before .before .before .before .may-write .result)
+          (c .before .before .before .if3 .left))
+          _ _ (c .before .before .quota-of .ensures) (c .before .units .ensures) (c .if4 .taken),
+      omega arith,
+      by .ready,
+    )
+
+returns-8 : tie.Need-returns-8
+returns-8 c =
+    let up8 = c .before .before .before .before .before .before .before .before in
+    let up16 = up8 .before .before .before .before .before .before .before .before in
+    let by = subst (BegunAs _ _ _) (up8 .before .before .before .before .before .before .before .t .given .1) (up16 .before .begin .ensures) in
+    let e = sym (up8 .before .before .before .before .open-entry .ensures) ∙ up8 .before .before .container .given .1 in
+    let w = ap₂ mayWrite (sym (c .before .before .before .before .before .before .label-of .ensures)) (sym (c .before .before .before .before .before .label-of2 .ensures)) ∙ sym
+    (c .before .before .before .before .may-write .ensures) in (
+      by .ready,
+      to-resize _ _ _ _ _ _ _ by (up8 .before .before .before .before .before .if1 .left) _ _ _ e _ (up8 .kind-of .ensures)
+          (c .before .before .before .before .before .before .before .if2 .left) (w ∙ not-false (c .before .before .before .before .may-write .result)
+          (c .before .before .before .if3 .left))
+          _ _ (c .before .before .quota-of .ensures) (c .before .units .ensures) (c .if4 .left),
+    )
 
 pub judge-spec : {M : Type 1} → statement M
 judge-spec =
@@ -84,11 +146,17 @@ judge-spec =
     enum-known-k
     returns-2
     returns-3
-    access-requires
-    enum-known-row
-    enum-known-k-2
+    open-entry-requires
+    enum-known-container
+    enum-told-2
     returns-4
+    kind-of-requires
+    returns-5
+    label-of-requires
+    label-of-requires-2
+    may-write-requires
+    returns-6
     quota-of-requires
     units-requires
-    returns-5
-    returns-6)
+    returns-7
+    returns-8)

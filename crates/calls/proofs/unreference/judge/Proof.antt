@@ -1,13 +1,13 @@
-use mathlib.Core.Path.{sym, ap₂, subst, _∙_}
-use borrow.Author.Needs.{needs}
-use borrow.Author.Tests.{not-true, not-false}
 use native.Mathlib.Omega.{arith}
-use Rattle.labels.specs.Core.{mayRead, mayWrite}
+use mathlib.Core.Path.{sym, ap₂, subst, _∙_}
+use borrow.Author.Tests.{not-true, not-false}
 use Rattle.calls.specs.Begun.{BegunAs}
 use Rattle.calls.specs.Laws.Prelude.{book-long}
+use Rattle.labels.specs.Core.{mayWrite}
 use Rattle.calls.specs.Laws.Begun.{stopped-verdict, nobody-verdict, caller-low}
 use Rattle.calls.specs.Laws.Entry.{container-below}
-use Rattle.calls.specs.Laws.Unreference.{none-five, shut-five, write-seven, to-cut}
+use Rattle.calls.specs.Laws.Unreference.{none-five, write-seven, to-cut}
+use borrow.Author.Needs.{needs}
 use Rattle.calls.proofs.unreference.judge.Statement.{statement}
 use Rattle.calls.proofs.unreference.judge.Tie as tie
 
@@ -31,8 +31,10 @@ enum-known-k c = search needs
 returns-2 : tie.Need-returns-2
 returns-2 c = stopped-verdict _ _ _ _ _ (subst (BegunAs _ _ _) (c .before .k .given .1) (c .before .before .before .begin .ensures))
 
-entry-of-requires : tie.Need-entry-of-requires
-entry-of-requires c κs = book-long _ _ (subst (BegunAs _ _ _) (c .before .t .given .1) (c .before .before .before .begin .ensures) .ready .areas)
+open-entry-requires : tie.Need-open-entry-requires
+open-entry-requires c κs =
+    let by = subst (BegunAs _ _ _) (c .before .t .given .1) (c .before .before .before .begin .ensures) in
+    (book-long _ _ (by .ready .areas), caller-low _ _ _ _ by)
 
 enum-known-container : tie.Need-enum-known-container
 enum-known-container c = search needs
@@ -43,7 +45,7 @@ enum-told-2 c = search needs
 returns-3 : tie.Need-returns-3
 returns-3 c =
     let by = subst (BegunAs _ _ _) (c .before .before .before .before .t .given .1) (c .before .before .before .before .before .before .begin .ensures) in
-    (none-five _ _ _ _ _ _ by (sym (c .before .before .entry-of .ensures) ∙ c .enum-told2 .given .1), omega arith, by .ready)
+    (none-five _ _ _ _ _ _ by (sym (c .before .before .open-entry .ensures) ∙ c .enum-told2 .given .1), omega arith, by .ready)
 
 label-of-requires : tie.Need-label-of-requires
 label-of-requires c κs =
@@ -52,39 +54,29 @@ label-of-requires c κs =
 
 label-of-requires-2 : tie.Need-label-of-requires-2
 label-of-requires-2 c κs =
-    let by = subst (BegunAs _ _ _) (c .before .before .before .before .before .before .t .given .1) (c .before .before .before .before .before .before .before .before .begin .ensures) in
-    (book-long _ _ (by .ready .areas), container-below _ _ _ _ _ _ by _ _ _ (sym (c .before .before .before .before .entry-of .ensures) ∙ c .before .before .container .given .1))
-
-may-read-requires : tie.Need-may-read-requires
-may-read-requires c κs = search needs
-
-returns-4 : tie.Need-returns-4
-returns-4 c =
-    let by = subst (BegunAs _ _ _) (c .before .before .before .before .before .before .before .before .before .t .given .1) (c .before .before .before .before .before .before .before .before .before .before .before .begin .ensures) in
-    let r = ap₂ mayRead (sym (c .before .before .before .label-of .ensures)) (sym (c .before .before .label-of2 .ensures)) ∙ sym (c .before .may-read .ensures) in
-    (shut-five _ _ _ _ _ _ by _ _ _ (sym (c .before .before .before .before .before .before .before .entry-of .ensures) ∙ c .before .before .before .before .before .container .given .1) (r ∙ not-true (c .before .may-read .result) (c .if1 .taken)), omega arith, by .ready)
+    let by = subst (BegunAs _ _ _) (c .before .before .before .before .before .before .t .given .1)
+    (c .before .before .before .before .before .before .before .before .begin .ensures) in
+    let e = sym (c .before .before .before .before .open-entry .ensures) ∙ c .before .before .container .given .1 in
+    (book-long _ _ (by .ready .areas), container-below _ _ _ _ _ _ by _ _ _ e)
 
 may-write-requires : tie.Need-may-write-requires
 may-write-requires c κs = search needs
 
+returns-4 : tie.Need-returns-4
+returns-4 c =
+    let by = subst (BegunAs _ _ _) (c .before .before .before .before .before .before .before .before .before .t .given .1)
+    (c .before .before .before .before .before .before .before .before .before .before .before .begin .ensures) in
+    let e = sym (c .before .before .before .before .before .before .before .open-entry .ensures) ∙ c .before .before .before .before .before .container .given .1 in
+    let w = ap₂ mayWrite (sym (c .before .before .before .label-of .ensures)) (sym (c .before .before .label-of2 .ensures)) ∙ sym (c .before .may-write .ensures) in
+    (write-seven _ _ _ _ _ _ by _ _ _ e (w ∙ not-true (c .before .may-write .result) (c .if1 .taken)), omega arith, by .ready)
+
 returns-5 : tie.Need-returns-5
 returns-5 c =
-    let by = subst (BegunAs _ _ _) (c .before .before .before .before .before .before .before .before .before .before .before .t .given .1) (c .before .before .before .before .before .before .before .before .before .before .before .before .before .begin .ensures) in
-    let r = ap₂ mayRead (sym (c .before .before .before .before .before .label-of .ensures)) (sym (c .before .before .before .before .label-of2 .ensures)) ∙ sym (c .before .before .before .may-read .ensures) in
-    let w = ap₂ mayWrite (sym (c .before .before .before .before .before .label-of .ensures)) (sym (c .before .before .before .before .label-of2 .ensures)) ∙ sym (c .before .may-write .ensures) in (
-      write-seven _ _ _ _ _ _ by _ _ _ (sym (c .before .before .before .before .before .before .before .before .before .entry-of .ensures) ∙ c .before .before .before .before .before .before .before .container .given .1) (r ∙ not-false (c .before .before .before .may-read .result) (c .before .before .if1 .left)) (w ∙ not-true (c .before .may-write .result) (c .if2 .taken)),
-      omega arith,
-      by .ready,
-    )
-
-returns-6 : tie.Need-returns-6
-returns-6 c =
-    let by = subst (BegunAs _ _ _) (c .before .before .before .before .before .before .before .before .before .before .before .t .given .1) (c .before .before .before .before .before .before .before .before .before .before .before .before .before .begin .ensures) in
-    let r = ap₂ mayRead (sym (c .before .before .before .before .before .label-of .ensures)) (sym (c .before .before .before .before .label-of2 .ensures)) ∙ sym (c .before .before .before .may-read .ensures) in
-    let w = ap₂ mayWrite (sym (c .before .before .before .before .before .label-of .ensures)) (sym (c .before .before .before .before .label-of2 .ensures)) ∙ sym (c .before .may-write .ensures) in (
-      by .ready,
-      to-cut _ _ _ _ _ _ by _ _ _ (sym (c .before .before .before .before .before .before .before .before .before .entry-of .ensures) ∙ c .before .before .before .before .before .before .before .container .given .1) (r ∙ not-false (c .before .before .before .may-read .result) (c .before .before .if1 .left)) (w ∙ not-false (c .before .may-write .result) (c .if2 .left)),
-    )
+    let by = subst (BegunAs _ _ _) (c .before .before .before .before .before .before .before .before .before .t .given .1)
+    (c .before .before .before .before .before .before .before .before .before .before .before .begin .ensures) in
+    let e = sym (c .before .before .before .before .before .before .before .open-entry .ensures) ∙ c .before .before .before .before .before .container .given .1 in
+    let w = ap₂ mayWrite (sym (c .before .before .before .label-of .ensures)) (sym (c .before .before .label-of2 .ensures)) ∙ sym (c .before .may-write .ensures) in
+    (by .ready, to-cut _ _ _ _ _ _ by _ _ _ e (w ∙ not-false (c .before .may-write .result) (c .if1 .left)))
 
 pub judge-spec : {M : Type 1} → statement M
 judge-spec =
@@ -96,14 +88,12 @@ judge-spec =
     returns
     enum-known-k
     returns-2
-    entry-of-requires
+    open-entry-requires
     enum-known-container
     enum-told-2
     returns-3
     label-of-requires
     label-of-requires-2
-    may-read-requires
-    returns-4
     may-write-requires
-    returns-5
-    returns-6)
+    returns-4
+    returns-5)

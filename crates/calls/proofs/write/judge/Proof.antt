@@ -2,11 +2,11 @@ use native.Mathlib.Omega.{arith}
 use mathlib.Core.Path.{sym, subst, _∙_}
 use borrow.Author.Tests.{not-true, not-false}
 use Rattle.calls.specs.Begun.{BegunAs}
-use Rattle.calls.specs.Part.{Parted}
-use Rattle.calls.specs.Laws.Begun.{stopped-verdict, nobody-verdict, caller-low}
-use Rattle.calls.specs.Laws.Part.{block-fits, part-fits}
 use Rattle.calls.specs.Laws.Prelude.{book-long}
-use Rattle.calls.specs.Laws.Write.{part-four, bytes-four, beyond-no, to-write}
+use Rattle.calls.specs.Laws.Begun.{stopped-verdict, nobody-verdict, caller-low}
+use Rattle.calls.specs.Laws.Entry.{object-below}
+use Rattle.calls.specs.Laws.Part.{block-fits, part-fits}
+use Rattle.calls.specs.Laws.Write.{part-four, bytes-four, none-five, write-judged}
 use borrow.Author.Needs.{needs}
 use Rattle.calls.proofs.write.judge.Statement.{statement}
 use Rattle.calls.proofs.write.judge.Tie as tie
@@ -42,32 +42,48 @@ returns-3 c =
 returns-4 : tie.Need-returns-4
 returns-4 c =
     let by = subst (BegunAs _ _ _) (c .before .before .before .before .t .given .1) (c .before .before .before .before .before .before .begin .ensures) in
-    (bytes-four _ _ _ _ _ _ _ _ _ _ by (sym (c .before .before .good-part .ensures) ∙ not-false (c .before .before .good-part .result) (c .before .if1 .left)) (c .if2 .taken), omega arith, by .ready)
-
-find-part-requires : tie.Need-find-part-requires
-find-part-requires c κs =
-    let by = subst (BegunAs _ _ _) (c .before .before .before .before .t .given .1) (c .before .before .before .before .before .before .begin .ensures) in
     let good = sym (c .before .before .good-part .ensures) ∙ not-false (c .before .before .good-part .result) (c .before .if1 .left) in
-    (book-long _ _ (by .ready .areas), caller-low _ _ _ _ by, block-fits (c .before .before .before .before .before .before .before .before .before .before .args .k) (c .before .before .before .before .before .before .before .before .before .before .args .from) (c .before .before .before .before .before .before .before .before .before .before .args .count) good, part-fits (c .before .before .before .before .before .before .before .before .before .before .args .k) (c .before .before .before .before .before .before .before .before .before .before .args .from) (c .before .before .before .before .before .before .before .before .before .before .args .count) good)
+    (bytes-four _ _ _ _ _ _ _ _ _ _ by good (c .if2 .taken), omega arith, by .ready)
 
-enum-known-place : tie.Need-enum-known-place
-enum-known-place c = search needs
+open-entry-requires : tie.Need-open-entry-requires
+open-entry-requires c κs =
+    let by = subst (BegunAs _ _ _) (c .before .before .before .before .t .given .1) (c .before .before .before .before .before .before .begin .ensures) in
+    (book-long _ _ (by .ready .areas), caller-low _ _ _ _ by)
 
-enum-known-n-2 : tie.Need-enum-known-n-2
-enum-known-n-2 c = search needs
+enum-known-container : tie.Need-enum-known-container
+enum-known-container c = search needs
+
+enum-told-2 : tie.Need-enum-told-2
+enum-told-2 c = search needs
 
 returns-5 : tie.Need-returns-5
 returns-5 c =
-    let by = subst (BegunAs _ _ _) (c .before .before .before .before .before .before .before .before .t .given .1) (c .before .before .before .before .before .before .before .before .before .before .begin .ensures) in
-    let good = sym (c .before .before .before .before .before .before .good-part .ensures) ∙ not-false (c .before .before .before .before .before .before .good-part .result) (c .before .before .before .before .before .if1 .left) in
-    (by .ready, to-write _ _ _ _ _ _ _ _ _ _ by good (c .before .before .before .before .if2 .left) _ (subst (Parted _ _ _ _ _ _ _ _) (c .before .place .given .1) (c .before .before .before .find-part .ensures)))
+    let by = subst (BegunAs _ _ _) (c .before .before .before .before .before .before .before .t .given .1)
+    (c .before .before .before .before .before .before .before .before .before .begin .ensures) in
+    let good = sym (c .before .before .before .before .before .good-part .ensures) ∙ not-false (c .before .before .before .before .before .good-part .result)
+    (c .before .before .before .before .if1 .left) in
+    (none-five _ _ _ _ _ _ _ _ _ _ by good (c .before .before .before .if2 .left) (sym (c .before .before .open-entry .ensures) ∙ c .enum-told2 .given .1), omega arith, by .ready)
+
+find-part-requires : tie.Need-find-part-requires
+find-part-requires c κs =
+    let up8 = c .before .before .before .before .before .before .before .before in
+    let by = subst (BegunAs _ _ _) (up8 .t .given .1) (up8 .before .before .begin .ensures) in
+    let k = up8 .before .before .before .before .before .before .args .k in
+    let f = up8 .before .before .before .before .before .before .args .from in
+    let n = up8 .before .before .before .before .before .before .args .count in
+    let e = sym (c .before .before .before .open-entry .ensures) ∙ c .before .container .given .1 in
+    let good = sym (c .before .before .before .before .before .before .good-part .ensures) ∙ not-false (c .before .before .before .before .before .before .good-part .result)
+    (c .before .before .before .before .before .if1 .left) in
+    (book-long _ _ (by .ready .areas), caller-low _ _ _ _ by, object-below _ _ _ _ _ _ by _ _ _ e, block-fits k f n good, part-fits k f n good)
 
 returns-6 : tie.Need-returns-6
 returns-6 c =
-    let by = subst (BegunAs _ _ _) (c .before .before .before .before .before .before .before .before .t .given .1) (c .before .before .before .before .before .before .before .before .before .before .begin .ensures) in
-    let good = sym (c .before .before .before .before .before .before .good-part .ensures) ∙ not-false (c .before .before .before .before .before .before .good-part .result) (c .before .before .before .before .before .if1 .left) in
-    let x = subst (Parted _ _ _ _ _ _ _ _) (c .before .n2 .given .1) (c .before .before .before .find-part .ensures) in
-    (beyond-no _ _ _ _ _ _ _ _ _ _ by good (c .before .before .before .before .if2 .left) _ x, x .later, by .ready)
+    let by = subst (BegunAs _ _ _) (c .before .before .before .before .before .before .before .before .before .t .given .1)
+    (c .before .before .before .before .before .before .before .before .before .before .before .begin .ensures) in
+    let e = sym (c .before .before .before .before .open-entry .ensures) ∙ c .before .before .container .given .1 in
+    let good = sym (c .before .before .before .before .before .before .before .good-part .ensures) ∙ not-false
+    (c .before .before .before .before .before .before .before .good-part .result) (c .before .before .before .before .before .before .if1 .left) in
+    write-judged _ _ _ _ _ _ _ _ _ _ by good (c .before .before .before .before .before .if2 .left) _ _ _ e (c .find-part .result) (c .find-part .ensures)
 
 pub judge-spec : {M : Type 1} → statement M
 judge-spec =
@@ -82,8 +98,9 @@ judge-spec =
     good-part-requires
     returns-3
     returns-4
-    find-part-requires
-    enum-known-place
-    enum-known-n-2
+    open-entry-requires
+    enum-known-container
+    enum-told-2
     returns-5
+    find-part-requires
     returns-6)

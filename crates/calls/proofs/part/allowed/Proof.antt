@@ -1,8 +1,8 @@
 use mathlib.Core.Path.{sym, _∙_}
 use Rattle.calls.specs.Laws.Access.{asked-writing, asked-reading}
 use borrow.Author.Needs.{needs}
-use Rattle.calls.proofs.access.allowed.Statement.{statement}
-use Rattle.calls.proofs.access.allowed.Tie as tie
+use Rattle.calls.proofs.part.allowed.Statement.{statement}
+use Rattle.calls.proofs.part.allowed.Tie as tie
 
 may-write-requires : tie.Need-may-write-requires
 may-write-requires c κs = search needs

@@ -1,0 +1,59 @@
+use mathlib.Core.Path.{sym, ap₂, _∙_}
+use borrow.Author.Tests.{not-true, not-false}
+use Rattle.labels.specs.Core.{mayRead}
+use Rattle.book.specs.Laws.Find.{entry-parts, container-low}
+use Rattle.calls.specs.Laws.Lookup.{none-entry, unreadable-entry, readable-entry}
+use borrow.Author.Needs.{needs}
+use Rattle.calls.proofs.lookup.open_entry.Statement.{statement}
+use Rattle.calls.proofs.lookup.open_entry.Tie as tie
+
+entry-of-requires : tie.Need-entry-of-requires
+entry-of-requires c κs = search needs
+
+enum-known-container : tie.Need-enum-known-container
+enum-known-container c = search needs
+
+enum-told : tie.Need-enum-told
+enum-told c = search needs
+
+returns : tie.Need-returns
+returns c = sym (none-entry _ _ _ _ (sym (c .before .before .entry-of .ensures) ∙ c .enum-told .given .1))
+
+label-of-requires : tie.Need-label-of-requires
+label-of-requires c κs = search needs
+
+label-of-requires-2 : tie.Need-label-of-requires-2
+label-of-requires-2 c κs = (
+  c .before .before .before .before .before .before .pre .0,
+  container-low _ _ _ (entry-parts _ _ _ _ _ _ (sym (c .before .before .before .before .entry-of .ensures)
+      ∙ c .before .before .container .given .1) .0),
+)
+
+may-read-requires : tie.Need-may-read-requires
+may-read-requires c κs = search needs
+
+returns-2 : tie.Need-returns-2
+returns-2 c =
+    let r = ap₂ mayRead (sym (c .before .before .before .label-of .ensures)) (sym (c .before .before .label-of2 .ensures)) ∙ sym (c .before .may-read .ensures) in
+    sym (unreadable-entry _ _ _ _ _ _ _ (sym (c .before .before .before .before .before .before .before .entry-of .ensures)
+    ∙ c .before .before .before .before .before .container .given .1) (r ∙ not-true (c .before .may-read .result) (c .if1 .taken)))
+
+returns-3 : tie.Need-returns-3
+returns-3 c =
+    let r = ap₂ mayRead (sym (c .before .before .before .label-of .ensures)) (sym (c .before .before .label-of2 .ensures)) ∙ sym (c .before .may-read .ensures) in
+    sym (readable-entry _ _ _ _ _ _ _ (sym (c .before .before .before .before .before .before .before .entry-of .ensures)
+    ∙ c .before .before .before .before .before .container .given .1) (r ∙ not-false (c .before .may-read .result) (c .if1 .left)))
+
+pub open-entry-spec : {M : Type 1} → statement M
+open-entry-spec =
+    tie.close
+    (tie.spec
+    entry-of-requires
+    enum-known-container
+    enum-told
+    returns
+    label-of-requires
+    label-of-requires-2
+    may-read-requires
+    returns-2
+    returns-3)
