@@ -7,7 +7,7 @@ use Rattle.rules.specs.Kernel.{Condition, Verdict, reading, writing, access}
 use Rattle.tables.specs.Layout.{view}
 use Rattle.book.specs.Book.{worldOf}
 
--- "S readable, or writable", of a thread with label m and a segment with label l
+-- RULES 8.12: "7 unless T may read S." 8.13: "7 unless T may write S." Of a thread with label m and a segment with label l
 abbrev pub asked : Bool → Label → Label → List Condition
 asked writes m l = cond writes (writing m l) (reading m l)
 

@@ -15,19 +15,19 @@ unfoldable pub amountOf : ℤ → Amount
 amountOf (pos k) = cond (ltb maxMove k) Bad (In k)
 amountOf (negsuc k) = cond (ltb k maxMove) (Out (suc k)) Bad
 
--- "-256 to 256"
+-- RULES 8.11: "4 unless n is from -256 to 256."
 abbrev pub overLimit : Amount → Bool
 overLimit (In m) = false
 overLimit (Out m) = false
 overLimit Bad = true
 
--- "if n < 0, O flows to high(T)"
+-- RULES 8.11: ".. and, for n below 0, O flows to high(T)."
 abbrev pub moreFor : Amount → Label → Label → List Condition
 moreFor (In m) t o = []
 moreFor (Out m) t o = reading t o
 moreFor Bad t o = []
 
--- "n > 0 needs spare in D, n < 0 in O"
+-- RULES 8.11: "13 if n is above D's spare, or if n is below 0 and -n is above O's spare."
 abbrev pub roomFor : Amount → World → ℕ → ℕ → Bool
 roomFor (In m) w d o = fits w d m
 roomFor (Out m) w d o = fits w o m

@@ -11,7 +11,7 @@ use Rattle.tables.specs.Layout.{view}
 use Rattle.book.specs.Book.{nextOf, labelOf, clearanceOf}
 use Rattle.calls.specs.Relabel.{Relabels}
 
--- "clearance 3 there (no pair if its clearance default is 3)": whether a clearance can take that
+-- RULES 8.1: "T's clearance gets level 3 there, by a pair unless its default is level 3." Whether a clearance can take that
 abbrev pub clearsB : Label → Bool
 clearsB c = eqb (c .default) level3 || hasRoom c
 

@@ -12,7 +12,7 @@ use Rattle.calls.specs.declared.Judged.{Judged}
 use Rattle.calls.specs.Outcome.{verdictOn, Means}
 use Rattle.calls.specs.Creating.{ToMake}
 
--- by the bytes of its label and its description, and the mask and quota asked for; "a new container also gets D's bits"
+-- by the bytes of its label and its description, and the mask and quota asked for; RULES 8.4: "The new mask has the bits given and those of D's mask."
 abbrev pub newContainer : World → ℕ → List ℕ → List ℕ → ℕ → ℕ → Obj
 newContainer w d l s m q = containerOf (labelOf l) s (bitOr m ((w .obj d) .mask)) (orDefault q containerDefault)
 

@@ -1,4 +1,5 @@
--- Calls 4 to 7: what they share. "T may write D; T flows to the label, the label to the new clearance if any, that to T's clearance."
+-- Calls 4 to 7: what they share. RULES 8.4: "7 unless T may write D, T flows to the new label, that flows to the new clearance if there is one, and the last of these flows to
+-- T's clearance."
 use Prim.Native.Nat.{ℕ, _-_, _/_, _%_, _^_}
 use mathlib.Core.Bool.{Bool, true, not}
 use mathlib.Core.Path.{_≡_}

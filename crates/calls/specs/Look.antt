@@ -15,15 +15,15 @@ use Rattle.book.specs.Book.{codeOf, labelOf, descriptionOf, onFound}
 use Rattle.calls.specs.Outcome.{verdictOn}
 use Rattle.calls.specs.Lookup.{openContainer, openEntry}
 
--- "The pair (D, D) is an entry only for call 16."
+-- RULES 8.16: "5 unless D is a container that T may read, and O is D itself or is linked in D; no other call takes (D, D) for an entry."
 unfoldable pub openLook : View → ℕ → ℕ → ℕ → Entry
 openLook v t d o = cond (eqb o d) (onFound (openContainer v t d) (λ c. place.In c c 0) place.Nothing) (openEntry v t d o)
 
--- "A thread's label is shown only if T may read it"
+-- RULES 8.16: "If O is a thread that T may not read, all bytes after the kind's code are 0."
 abbrev pub shownB : ℕ → Label → Label → Bool
 shownB k mine theirs = not (eqb k threadCode && not (mayRead mine theirs))
 
--- "kind; 1 if the label is shown; default code; five zeros; eight words, little-endian", "else zeros there"
+-- RULES 8.16: "Output: the description in 32 bytes; the kind's code; 1, for a label that is shown; the label's default code; five zeros; the eight words in eight bytes each, .."
 abbrev pub shownBytes : ℕ → Label → List ℕ
 shownBytes k l = k ∷ 1 ∷ l .default ∷ 0 ∷ 0 ∷ 0 ∷ 0 ∷ 0 ∷ wordsBytes (l .words)
 

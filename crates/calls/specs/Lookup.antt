@@ -1,4 +1,5 @@
--- The lookups of calls 4 to 16. "Every D named must be readable (else 5)": what is not open is not found.
+-- The lookups of calls 4 to 16. RULES 6.5: "A container that the call names does not exist, is an object of another kind, or may not be read by the caller; or the object named
+-- with it is not linked in it." What is not open is not found.
 use Prim.Native.Nat.{ℕ}
 use mathlib.Core.Bool.{cond}
 use Rattle.labels.specs.Core.{mayRead}

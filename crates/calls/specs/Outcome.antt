@@ -16,11 +16,11 @@ use Rattle.calls.specs.declared.Answer.the-variants.{Granted, Refused}
 use Rattle.calls.specs.declared.Judged.{Judged}
 use Rattle.calls.specs.declared.Judged.the-variants.{Go, No, Stop}
 
--- the verdict on a call, of any two areas; 1: "an area has the wrong length, or the book is unsound"
+-- the verdict on a call, of any two areas. RULES 6.1: "An area's length is wrong, or the book is not sound."
 unfoldable pub verdictOn : List ℕ → List ℕ → ℕ → Call → Verdict
 verdictOn b area c x = must (areasB b area) 1 (call (worldOf (view b) area) c x)
 
--- "Every call takes the next number, granted or not, except after answers 1 and 2."
+-- RULES 4.2: "Each call uses up its number, granted or refused, and the next number is then one higher. Only answers 1 and 2 use up none."
 unfoldable pub bookLeft : Verdict → View → List ℕ → View
 bookLeft (refuse k) v area = cond (leb k 2) v (movedOn v)
 bookLeft (grant n o h) v area = enactView h v area
@@ -34,7 +34,7 @@ unfoldable pub outputLeft : Verdict → List ℕ → List ℕ
 outputLeft (refuse k) out = out
 outputLeft (grant n o h) out = o
 
--- page 01's number and value for each case of an answer
+-- RULES 6: the number and the value for each case of an answer
 abbrev pub numberOf : Answer → ℕ
 numberOf (Granted v) = 0
 numberOf (Refused k) = k

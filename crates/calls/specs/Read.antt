@@ -46,9 +46,9 @@ unfoldable pub beginsAt : Verdict → ℕ → ℕ
 beginsAt (refuse m) p = 0
 beginsAt (grant v o h) p = p
 
--- "A granted read hands back that part of the data area itself; a refused one hands back an empty part, as does count 0; answer and value go into lent numbers".
--- A reference's place is a piece of memory and a byte of it (`ptr`), so "itself" is said by the place, beside the bytes. The data area is only lent to be read, so it stays as
--- it was.
+-- RULES 8.12: "The output is the part of the data area that has the bytes of S from 64k + from on, count of them; nothing is copied. If count is 0 or the call is refused, the
+-- part is empty." Answer and value go into lent numbers. A reference's place is a piece of memory and a byte of it (`ptr`), so "nothing is copied" is said by the place, beside
+-- the bytes. The data area is only lent to be read, so it stays as it was.
 pub record Shown (b : List ℕ) (area : RefT (List ℕ)) (c d s k f n answer value : ℕ) (part : RefT (List ℕ)) (b′ : List ℕ) : Type 0 where
   pub answer-is : answer ≡ answerOf (verdictOn b (now area) c (read d s k f n))
   pub value-is : value ≡ valueOf (verdictOn b (now area) c (read d s k f n))

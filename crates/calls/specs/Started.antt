@@ -1,4 +1,5 @@
--- Start: "Any other f answers 4, a wrong area length 1 (checked first); both areas then stay as lent. Its value is always 0."
+-- RULES 7.2: "It answers 1 if an area's length is wrong, and otherwise 4 if f is not in that range. It then leaves both areas as lent. What the book held does not matter."
+-- 7.4: "Start has value 0."
 use Prim.Native.Nat.{ℕ}
 use mathlib.Core.Bool.{Bool, true, false, cond}
 use mathlib.Core.Path.{_≡_}

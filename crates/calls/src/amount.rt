@@ -11,7 +11,7 @@ pub enum Amount {
     Bad,
 }
 
-// "-256 to 256"
+// RULES 8.11: "4 unless n is from -256 to 256."
 pub fn units_of(n: i64) -> Amount
     ensures { λ r. ⌜ r ≡ amountOf n ⌝ }
 {

@@ -33,7 +33,7 @@ use tables::TEXT_SIZE;
 // The largest mask, as wide as the one that is lent.
 const MASK_MOST: u64 = MAX_MASK as u64;
 
-// "Quota 0 in a create means the default: .. container 16".
+// RULES 3.7: ".. 0 stands for a default: 16 for a container, 5 for a segment."
 const DEFAULT_QUOTA: u64 = 16;
 
 // The place of a container's bit in a mask.
@@ -88,7 +88,7 @@ fn judge(
     )
 }
 
-// "a new container also gets D's bits".
+// RULES 8.4: "The new mask has the bits given and those of D's mask."
 fn joined(mask: u64, outer: u64) -> u64
     requires { ⌜ (mask ≤ maxMask) × (outer ≤ maxMask) ⌝ }
     ensures { λ r. ⌜ (r ≡ bitOr mask outer) × (r < 256) ⌝ }

@@ -22,7 +22,7 @@ use book::make::NewRow;
 use labels::Label;
 use labels::bytes::from_bytes;
 
-// "Thread and gate have quota 1".
+// RULES 8.6: "As 8.4, with quota 1."
 const QUOTA: u64 = 1;
 
 // The place of a gate's bit in a mask.

@@ -27,7 +27,7 @@ use labels::Label;
 use labels::bytes::from_bytes;
 use tables::TEXT_SIZE;
 
-// "Quota 0 in a create means the default: segment 5".
+// RULES 3.7: ".. 0 stands for a default: 16 for a container, 5 for a segment."
 const DEFAULT_QUOTA: u64 = 5;
 
 // The place of a segment's bit in a mask.

@@ -23,7 +23,7 @@ use labels::Label;
 use labels::bytes::from_bytes;
 use tables::TEXT_SIZE;
 
-// "Thread and gate have quota 1".
+// RULES 8.7: "As 8.4, with quota 1."
 const QUOTA: u64 = 1;
 
 // The place of a thread's bit in a mask.

@@ -22,10 +22,10 @@ use labels::bytes::from_bytes;
 use labels::compare::flows;
 use labels::compare::may_write;
 
-// "Otherwise 1 to 255."
+// RULES 3.7: "The quota given to call 4 or 5 is at most 255, .."
 pub const MAX_QUOTA: u64 = 255;
 
-// "Quota 0 in a create means the default".
+// RULES 3.7: ".. and 0 stands for a default: .."
 pub fn or_default(quota: u64, default: u64) -> u64
     ensures { λ r. ⌜ r ≡ orDefault quota default ⌝ }
 {

@@ -48,7 +48,7 @@ fn good(next: u64, lr: &[u8], cr: &[u8], lv: &[u8], n: usize) -> bool
     n == TEXT_SIZE
 }
 
-// "T flows to G's clearance and to L_V; floor(T, G) to L_R, L_R to C_R, C_R to join(both clearances)"
+// RULES 8.15: "7 unless T flows to G's clearance, T flows to L_V, floor(T, G) flows to L_R, L_R flows to C_R, and C_R flows to join(T's clearance, G's clearance)."
 fn allowed(
     mine: Label,
     cleared: Label,

@@ -19,7 +19,7 @@ use labels::Label;
 use labels::compare::flows;
 use labels::compare::may_write;
 
-// "T may write D, T flows to O."
+// RULES 8.10: "7 unless T may write D and T flows to O."
 fn allowed(mine: Label, holder: Label, theirs: Label) -> bool
     ensures { λ r. ⌜ r ≡ allHold (writing mine holder ++ (flow mine theirs ∷ [])) ⌝ }
 {

@@ -1,4 +1,4 @@
-// The calls of page 01: each judges, by labels and book, what the rules say of the world that the areas spell, and enacts it.
+// The calls of docs/RULES.md, section 8: each judges, by labels and book, what the rules say of the world that the areas spell, and enacts it.
 
 // What a call answers: granted with its value, or refused by its number.
 pub enum Answer {

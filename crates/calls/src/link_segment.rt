@@ -26,7 +26,7 @@ use labels::Label;
 use labels::compare::flows;
 use labels::compare::may_write;
 
-// "T may write D; O flows to T's clearance."
+// RULES 8.9: "7 unless T may write D and O flows to T's clearance."
 fn allowed(mine: Label, clear: Label, holder: Label, theirs: Label) -> bool
     ensures { λ r. ⌜ r ≡ allHold (writing mine holder ++ (flow theirs clear ∷ [])) ⌝ }
 {

@@ -34,7 +34,7 @@ use tables::TEXT_SIZE;
 // The bytes of an output: the description, eight bytes, and the words of a label.
 pub const LOOK_SIZE: usize = TEXT_SIZE + 8 + WORDS * 8;
 
-// "The pair (D, D) is an entry only for call 16."
+// RULES 8.16: "5 unless D is a container that T may read, and O is D itself or is linked in D; no other call takes (D, D) for an entry."
 fn open_look(b: &[u8], t: usize, d: u64, o: u64) -> Entry
     requires { ⌜ (length (now b) ≡ size) × (t < rowCount) ⌝ }
     ensures { λ x. ⌜ x ≡ openLook (view (now (b .entry))) t d o ⌝ }
@@ -76,7 +76,7 @@ fn judge(b: &[u8], area: &[u8], caller: u64, d: u64, o: u64, n: usize) -> Judged
 
 // ---- what is put out
 
-// "A thread's label is shown only if T may read it"
+// RULES 8.16: "If O is a thread that T may not read, all bytes after the kind's code are 0."
 fn shown(kind: u8, mine: Label, theirs: Label) -> bool
     ensures { λ r. ⌜ r ≡ shownB kind mine theirs ⌝ }
 {

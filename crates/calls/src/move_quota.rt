@@ -46,7 +46,7 @@ fn movable(kind: u8) -> bool
     kind == CONTAINER
 }
 
-// "if n < 0, O flows to high(T)"
+// RULES 8.11: ".. and, for n below 0, O flows to high(T)."
 fn readable(mine: Label, theirs: Label, units: Amount) -> bool
     ensures { λ r. ⌜ r ≡ allHold (moreFor units mine theirs) ⌝ }
 {
@@ -57,7 +57,7 @@ fn readable(mine: Label, theirs: Label, units: Amount) -> bool
     }
 }
 
-// "T may write D; T flows to O, O to T's clearance; if n < 0, O flows to high(T)."
+// RULES 8.11: "7 unless T may write D, T flows to O, O flows to T's clearance and, for n below 0, O flows to high(T)."
 fn allowed(mine: Label, clear: Label, holder: Label, theirs: Label, units: Amount) -> bool
     ensures { λ r. ⌜ r ≡ allHold (writing mine holder ++ (flow mine theirs ∷ flow theirs clear ∷ moreFor units mine theirs)) ⌝ }
 {
@@ -84,7 +84,7 @@ fn is_fixed(b: &[u8], r: usize) -> bool
     fixed_of(b, r)
 }
 
-// "n > 0 needs spare in D, n < 0 in O."
+// RULES 8.11: "13 if n is above D's spare, or if n is below 0 and -n is above O's spare."
 fn has_room(b: &[u8], container: usize, object: usize, units: Amount) -> bool
     requires { ⌜ (length (now b) ≡ size) × Sound (view (now b)) × Live (view (now b)) container × Live (view (now b)) object ⌝ }
     ensures { λ x. ⌜ x ≡ roomAt units (view (now (b .entry))) container object ⌝ }

@@ -20,7 +20,7 @@ use labels::Label;
 use labels::compare::may_read;
 use labels::compare::may_write;
 
-// "block k up to 253"
+// RULES 8.12: "4 if k is above 253, .."
 const MAX_BLOCK: u64 = 253;
 
 // The bytes of a block.
@@ -29,7 +29,7 @@ const BLOCK_SIZE: u64 = 64;
 // The same, as the way from one block of the data area to the next.
 const BLOCK_STEP: usize = 64;
 
-// "from + count ≤ 64", of any two numbers: their sum could wrap, so it is not taken.
+// RULES 8.12: ".. or if from + count, reckoned without overflow, is above 64." The sum could wrap, so it is not taken.
 pub fn good_part(k: u64, from: u64, count: u64) -> bool
     ensures { λ r. ⌜ r ≡ (leb k maxBlock && leb (from + count) blockSize) ⌝ }
 {
@@ -42,7 +42,7 @@ pub fn good_part(k: u64, from: u64, count: u64) -> bool
     count <= BLOCK_SIZE - from
 }
 
-// "S readable, or writable."
+// RULES 8.12: "7 unless T may read S." 8.13: "7 unless T may write S."
 fn allowed(mine: Label, theirs: Label, writes: bool) -> bool
     ensures { λ r. ⌜ r ≡ allHold (asked writes mine theirs) ⌝ }
 {

@@ -16,7 +16,7 @@ use book::kinds::SEGMENT;
 use book::units::units;
 use labels::compare::may_write;
 
-// "length up to 16,256"
+// RULES 8.14: "4 if the length is above 16,256."
 const MAX_LENGTH: u64 = 16256;
 
 fn judge(b: &[u8], area: &[u8], caller: u64, d: u64, s: u64, length: u64) -> Judged

@@ -19,7 +19,7 @@ use labels::bytes::from_bytes;
 use labels::compare::flows;
 use labels::compare::flows_join_high;
 
-// "T flows to C, C to join(clearance, high(T))"
+// RULES 8.3: "7 unless T flows to C and C flows to join(T's clearance, high(T))."
 fn allowed(mine: Label, taken: Label, cleared: Label) -> bool
     ensures { λ r. ⌜ r ≡ allHold (flow mine taken ∷ flowJoinHigh taken cleared mine ∷ []) ⌝ }
 {

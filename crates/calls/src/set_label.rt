@@ -18,7 +18,7 @@ use labels::Label;
 use labels::bytes::from_bytes;
 use labels::compare::flows;
 
-// "T flows to L, L to the clearance"
+// RULES 8.2: "7 unless T flows to L and L flows to T's clearance."
 fn allowed(mine: Label, taken: Label, cleared: Label) -> bool
     ensures { λ r. ⌜ r ≡ allHold (flow mine taken ∷ flow taken cleared ∷ []) ⌝ }
 {

@@ -22,7 +22,7 @@ use Rattle.calls.specs.Laws.Access.{access-five, access-at, segment-leng
 use Rattle.calls.specs.Laws.Entry.{object-found}
 use Rattle.calls.specs.Laws.Tested.{means-tested}
 
--- ---- "block k up to 253, from, count; from + count ≤ 64"
+-- ---- RULES 8.12: "4 if k is above 253, or if from + count, reckoned without overflow, is above 64."
 
 module _ (k f n : ℕ) where
   pub block-high : maxBlock < k → false ≡ (leb k maxBlock && leb (f + n) blockSize)

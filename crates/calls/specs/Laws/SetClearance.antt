@@ -19,7 +19,7 @@ use Rattle.calls.specs.Laws.Begun.{caller-four, caller-judged, caller-la
 use Rattle.calls.specs.Laws.Prelude.{must-passed, must-failed}
 use Rattle.calls.specs.Laws.Relabel.{caller-row, caller-label-fits}
 
--- "T flows to C, C to join(clearance, high(T))"
+-- RULES 8.3: "7 unless T flows to C and C flows to join(T's clearance, high(T))."
 module _ (mine taken cleared : Label) where
   pub clearance-fails : flows mine taken ≡ false → allHold (flow mine taken ∷ flowJoinHigh taken cleared mine ∷ []) ≡ false
   clearance-fails e = all-failed _ _ (flow-holds mine taken ∙ e)

@@ -18,7 +18,7 @@ use Rattle.calls.specs.Laws.Begun.{caller-four, caller-judged, caller-la
 use Rattle.calls.specs.Laws.Prelude.{must-passed, must-failed}
 use Rattle.calls.specs.Laws.Relabel.{caller-row, caller-clearance-fits}
 
--- "T flows to L, L to the clearance"
+-- RULES 8.2: "7 unless T flows to L and L flows to T's clearance."
 module _ (mine taken cleared : Label) where
   pub label-fails : flows mine taken ≡ false → allHold (flow mine taken ∷ flow taken cleared ∷ []) ≡ false
   label-fails e = all-failed _ _ (flow-holds mine taken ∙ e)

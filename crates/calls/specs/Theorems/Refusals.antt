@@ -1,5 +1,5 @@
--- Demand 1, once for all calls, over any areas whatever: "A refusal gives its number and the value 0; it leaves the data area .. and the whole book unchanged, save
--- that the call number moves on by one (not even that after answers 1 and 2)."
+-- Demand 1 (docs/DEMANDS.md), once for all calls, over any areas whatever. RULES 6.14: "A refused call has value 0. It leaves both areas and every output as they were,
+-- unused bytes too, but for the next number (4.2)."
 use Prim.Native.Nat.{ℕ, _≤_, _<_}
 use native.Mathlib.Omega.{arith}
 use mathlib.Core.Bool.{Bool, true, false, cond}
