@@ -14,11 +14,11 @@ use Rattle.quotas.specs.Sum.{Σ, when}
 use Rattle.quotas.specs.Any.{any, both, either}
 use Rattle.rules.specs.Kernel.{Call, createCategory, setLabel, createContainer, createSegment, createThread, unreference, moveQuota, read, write, resize, History, started, next, worldAfter, startable, start, call, after, tests, judge, must, opens, entry, make, move, access, forbids, fits, spareOf, useOf, holdOf, charged, units, answerOf, valueOf, outputOf, leaves, apply, put, linkIn, under, below, stays, kept, edit, goodArguments, goodLabel, goodText, holds, allHold, flow, reading, writing, floorFlow, flowJoin, flowJoinHigh, containerOf, segmentOf, gateOf, threadOf, clearedAt, lookBytes, overwrite, resized, orDefault, kindCode, isLive, isThread, isGate, isSegment, isContainer, hasClearance, blank, nothing}
 use Rattle.rules.specs.Sound.{Sound}
-use Rattle.rules.specs.Histories.{firstNumber, WellStarted}
+use Rattle.rules.specs.Histories.{firstWorld, WellStarted}
 use Rattle.rules.specs.Ledger.{lineIf, lineOf, granted, grantedBy, charge, chargeBy, reckoned, spends, draws, needs, takesUnits, askedOf, unitsAsked, refusedEarlier, writer, Meanwhile, nothingYet, another}
 use Rattle.rules.specs.Trees.{inTree}
 use Rattle.rules.specs.Written.{lastWritten, leftBy}
-use Rattle.rules.specs.Theorems.StaysSound.{history-sound}
+use Rattle.rules.specs.Theorems.StaysSound.{start-is-sound, history-sound}
 use Rattle.rules.specs.Theorems.Reckoned.{reckoned-is-spare}
 use Rattle.rules.specs.Theorems.Granted.{room-is-kept, growth-is-kept}
 use Rattle.rules.specs.Theorems.Shrinks.{reckoned-shrinks-by}
@@ -98,12 +98,12 @@ unfoldable pub takeBack : Call
 takeBack = moveQuota 100 103 (negsuc 13)
 
 started-well : WellStarted granting
-unfolding granting grown morning firstNumber startable
-started-well = refl
+unfolding granting grown morning firstWorld startable
+started-well = start-is-sound 100 refl
 
 crowded-well : WellStarted crowding
-unfolding crowding granting grown morning firstNumber startable
-crowded-well = refl
+unfolding crowding granting grown morning firstWorld startable
+crowded-well = start-is-sound 100 refl
 
 -- soundness (theorem 2) speaks of this history
 pub crowded-sound : Sound (worldAfter crowding)

@@ -21,10 +21,10 @@ use Rattle.rules.specs.Kernel.{goodArguments, goodLabel, goodText, holds, allHo
 use Rattle.rules.specs.Kernel.{segmentOf, gateOf, threadOf, clearedAt, lookBytes, overwrite, resized, orDefault, kindCode, isLive, isThread, isGate, isSegment}
 use Rattle.rules.specs.Kernel.{isContainer, hasClearance, blank, nothing}
 use Rattle.rules.specs.Sound.{Sound}
-use Rattle.rules.specs.Histories.{firstNumber}
+use Rattle.rules.specs.Histories.{firstWorld}
 use Rattle.rules.specs.Laws.Bools.{and-l, and-r, not-both, and-i, bool-cases}
 use Rattle.rules.specs.Laws.Usage.{held-below, holder-below}
-use Rattle.rules.specs.Theorems.StaysSound.{history-sound}
+use Rattle.rules.specs.Theorems.StaysSound.{start-is-sound, history-sound}
 use Rattle.tainted.specs.Tainted.{untainted, untaintedContainer, untaintedCaller, taintedCaller, UntaintedStart, AlikeHistories, same-start, SameUntainted}
 use Rattle.tainted.specs.Tainted as taint
 use Rattle.tainted.specs.Theorem.{tainted-work-does-not-show}
@@ -218,7 +218,7 @@ computed = record { number = refl; no-star = refl; no-stray = refl; by-tainted =
 
 pub noon-sound : Sound noon
 unfolding noon
-noon-sound = history-sound morning (unfold morning firstNumber startable in refl)
+noon-sound = history-sound morning (unfold morning firstWorld startable in start-is-sound 5 refl)
 
 pub noon-untainted : UntaintedStart 7 noon
 noon-untainted = terms-tested 7 noon noon-sound (omega (arith, computed .number)) (computed .no-star) (computed .no-stray)

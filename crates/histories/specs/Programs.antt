@@ -8,7 +8,7 @@ use mathlib.Core.List.{List, []}
 use lib.ListN.{length}
 use lib.Dec.{eqb}
 use lib.IntN.{ℤ, pos, negsuc}
-use Rattle.rules.specs.Kernel.{Call, createCategory, setLabel, setClearance, createContainer, createSegment, createGate, createThread, unreference, linkSegment, fixQuota, moveQuota, read, write, resize, enterGate, look, call, answerOf, History, started, next, worldAfter}
+use Rattle.rules.specs.Kernel.{Call, createCategory, setLabel, setClearance, createContainer, createSegment, createGate, createThread, unreference, linkSegment, fixQuota, moveQuota, read, write, resize, enterGate, look, call, answerOf, History, beginning, next, worldAfter}
 use Rattle.rules.specs.Issued.{creates}
 use Rattle.flytewood.specs.Called.{Bytes, Called, Started}
 use Rattle.histories.specs.Areas.{world, After}
@@ -94,7 +94,7 @@ NotChangesNothing = (p : Program) → Ends p → Meets p → ChangesNothing p �
 
 -- a create was granted in the history
 unfoldable pub hasCreated : History → Bool
-hasCreated (started f) = false
+hasCreated (beginning w) = false
 hasCreated (next h c x) = (creates x && eqb (answerOf (call (worldAfter h) c x)) 0) || hasCreated h
 
 -- after such a history, whatever it answers to a create, it leaves the objects as they were

@@ -9,7 +9,7 @@ use lib.ListN.{length, getD}
 use lib.Dec.{eqb, leb}
 use borrow.Author.Tests.{eqb-true, eq-eqb}
 use Rattle.quotas.specs.Sum.{Σ, when}
-use Rattle.rules.specs.Kernel.{World, Call, read, resize, isLive, isContainer, isSegment, units, holdOf, spareOf, startable, call, after, answerOf, valueOf, Verdict, History, started, next, worldAfter, blockSize}
+use Rattle.rules.specs.Kernel.{World, Call, read, resize, isLive, isContainer, isSegment, units, holdOf, spareOf, startable, call, after, answerOf, valueOf, Verdict, History, beginning, start, started, next, worldAfter, blockSize}
 use Rattle.rules.specs.Answers.{oneOf}
 use Rattle.rules.specs.Trees.{inTree}
 use Rattle.rules.specs.Written.{lastWritten}
@@ -28,7 +28,7 @@ use Rattle.rules.specs.Laws.Bools.{bool-cases}
 use Rattle.tables.specs.Layout.{View, view, size}
 use Rattle.tables.specs.Layout.Only.{view-only}
 use Rattle.book.specs.Book.{worldOf}
-use Rattle.book.specs.Enact.{areaSize}
+use Rattle.book.specs.Enact.{areaSize, startView}
 use Rattle.book.specs.Test.{areasB}
 use Rattle.book.specs.Laws.Clear.{wiped-clear}
 use Rattle.book.specs.Laws.Means.{sound-means}
@@ -118,22 +118,37 @@ one-read b area c d s k from n answer₁ value₁ place₁ count₁ b₁ area₁
 same-left : (v v′ : Verdict) (w w′ : View) (l l′ : List ℕ) → v ≡ v′ → w ≡ w′ → l ≡ l′ → (bookLeft v w l ≡ bookLeft v′ w′ l′) × (areaLeft v w l ≡ areaLeft v′ w′ l′)
 same-left v v′ w w′ l l′ e f g = (rw (e, f, g), rw (e, f, g))
 
-one-by-one : {h : History} {b₁ area₁ b₂ area₂ : List ℕ} → After h b₁ area₁ → After h b₂ area₂ → (view b₁ ≡ view b₂) × (area₁ ≡ area₂)
-one-by-one (begun f c₁ d₁ b₁ area₁ s) (begun g c₂ d₂ b₂ area₂ t) =
+-- two starts of one world are starts at one number
+same-first-number : (f g : ℕ) → started f ≡ started g → f ≡ g
+unfolding worldAfter start
+same-first-number f g e = ap (λ (h : History). worldAfter h .root) e
+
+not-next : (w : World) (h : History) (c : ℕ) (x : Call) → beginning w ≡ next h c x → ⊥
+not-next w h c x e = let z : _≡_ {A = ℕ} 0 1 = cc in omega arith
+
+same-next : (h k : History) (c d : ℕ) (x y : Call) → next h c x ≡ next k d y → (h ≡ k) × (c ≡ d) × (x ≡ y)
+same-next h k c d x y e = (cc, cc, cc)
+
+one-by-one : {h k : History} {b₁ area₁ b₂ area₂ : List ℕ} → h ≡ k → After h b₁ area₁ → After k b₂ area₂ → (view b₁ ≡ view b₂) × (area₁ ≡ area₂)
+one-by-one same (begun f c₁ d₁ b₁ area₁ s) (begun g c₂ d₂ b₂ area₂ t) =
     let p = s .made in
     let q = t .made in
-    (p .book-made (sym (p .answer)) ∙ sym (q .book-made (sym (q .answer))), p .area-made (sym (p .answer)) ∙ sym (q .area-made (sym (q .answer))))
-one-by-one (called h c₁ d₁ c x out₁ answer₁ value₁ b₁ area₁ given₁ a d) (called k c₂ d₂ c′ y out₂ answer₂ value₂ b₂ area₂ given₂ a₂ e) =
-    let (p, q) = one-by-one a a₂ in
+    let e = same-first-number f g same in
+    (p .book-made (sym (p .answer)) ∙ ap startView e ∙ sym (q .book-made (sym (q .answer))), p .area-made (sym (p .answer)) ∙ sym (q .area-made (sym (q .answer))))
+one-by-one same (begun f c₁ d₁ b₁ area₁ s) (called k c₂ d₂ c′ y out₂ answer₂ value₂ b₂ area₂ given₂ a₂ e) = absurd (not-next (start f) k c′ y same)
+one-by-one same (called h c₁ d₁ c x out₁ answer₁ value₁ b₁ area₁ given₁ a d) (begun g c₂ d₂ b₂ area₂ t) = absurd (not-next (start g) h c x (sym same))
+one-by-one same (called h c₁ d₁ c x out₁ answer₁ value₁ b₁ area₁ given₁ a d) (called k c₂ d₂ c′ y out₂ answer₂ value₂ b₂ area₂ given₂ a₂ e) =
+    let (before, caller, call-is) = same-next h k c c′ x y same in
+    let (p, q) = one-by-one before a a₂ in
     let g = spelled h c₁ d₁ a .good in
-    let g₂ = spelled h c₂ d₂ a₂ .good in
-    let v = verdict-is c₁ d₁ g c x ∙ (ap₂ (λ (w : View) (l : List ℕ). call (worldOf w l) c x) p q ∙ sym (verdict-is c₂ d₂ g₂ c x)) in
+    let g₂ = spelled k c₂ d₂ a₂ .good in
+    let v = verdict-is c₁ d₁ g c x ∙ (λ t. call (worldOf (p t) (q t)) (caller t) (call-is t)) ∙ sym (verdict-is c₂ d₂ g₂ c′ y) in
     let (m, n) = same-left _ _ _ _ _ _ v p q in
     (d .said .left .book-left g ∙ (m ∙ sym (e .said .left .book-left g₂)), d .said .left .area-left ∙ (n ∙ sym (e .said .left .area-left)))
 
 pub one-history : the.OneHistory
 one-history h b₁ area₁ b₂ area₂ a a₂ =
-    let (p, q) = one-by-one a a₂ in
+    let (p, q) = one-by-one refl a a₂ in
     let s = spelled h b₁ area₁ a in
     let t = spelled h b₂ area₂ a₂ in
     (view-only b₁ b₂ (s .bytes) (t .bytes) p (book-long b₁ area₁ (s .good)) (book-long b₂ area₂ (t .good)), q)
@@ -143,7 +158,7 @@ reads-show h b area a c d s k from count answer value b′ area′ part t grante
     let r = next-as-ruled h b area a c (read d s k from count) [] answer value b′ area′ part t in
     subst (λ (l : List ℕ). (length l ≡ count) × ((i : ℕ) → i < count → getD l i 0 ≡ lastWritten h s (blockSize * k + from + i)))
     (sym (r .output-is ∙ handed-out (call (worldAfter h) c (read d s k from count))))
-    (read-shows h c d s k from count (sym (r .answer-is) ∙ granted))
+    (read-shows h (spelled h b area a .started-well) c d s k from count (sym (r .answer-is) ∙ granted))
 
 pub clearing-shows : the.ClearingShows
 clearing-shows h b area a j l =

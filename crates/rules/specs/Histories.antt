@@ -1,14 +1,12 @@
--- Histories: a start, then any calls of any callers (Kernel has their worlds).
-use Prim.Native.Nat.{ℕ}
-use mathlib.Core.Bool.{true}
-use mathlib.Core.Path.{_≡_}
-use Rattle.rules.specs.Kernel.{startable, History, started, next}
+-- Histories: a world to begin with, then any calls of any callers (Kernel has their worlds).
+use Rattle.rules.specs.Kernel.{World, History, beginning, next}
+use Rattle.rules.specs.Sound.{Sound}
 
--- the number that a history started with
-unfoldable pub firstNumber : History → ℕ
-firstNumber (started f) = f
-firstNumber (next h c x) = firstNumber h
+-- the world that a history begins with
+unfoldable pub firstWorld : History → World
+firstWorld (beginning w) = w
+firstWorld (next h c x) = firstWorld h
 
--- RULES 7.1: "Start takes a first number f, at least 1 and at most 2305843009213693949."
+-- it is sound, as Start's is (`start-is-sound` in Theorems/StaysSound)
 abbrev pub WellStarted : History → Type 0
-WellStarted h = startable (firstNumber h) ≡ true
+WellStarted h = Sound (firstWorld h)

@@ -1,12 +1,12 @@
 -- The numbers that calls issue, in the order in which they were issued. RULES 4.3: "A call that issues an id
 -- or a category issues its own number."
-use Prim.Native.Nat.{ℕ, _+_, _<_}
+use Prim.Native.Nat.{ℕ, zero, suc, _<_}
 use mathlib.Core.Bool.{Bool, cond, _&&_, _||_}
 use mathlib.Core.Path.{_≡_}
 use mathlib.Core.List.{List, [], _∷_}
 use lib.ListN.{length, getD}
 use lib.Dec.{eqb, leb}
-use Rattle.rules.specs.Kernel.{Call, createCategory, setLabel, setClearance, createContainer, createSegment, createGate, createThread, unreference, linkSegment, fixQuota, moveQuota, read, write, resize, enterGate, look, call, answerOf, valueOf, History, started, next, worldAfter}
+use Rattle.rules.specs.Kernel.{World, isLive, Call, createCategory, setLabel, setClearance, createContainer, createSegment, createGate, createThread, unreference, linkSegment, fixQuota, moveQuota, read, write, resize, enterGate, look, call, answerOf, valueOf, History, beginning, next, worldAfter}
 
 -- the calls as docs/RULES.md counts them: rule 8.n is call n
 unfoldable pub callNumber : Call → ℕ
@@ -36,9 +36,14 @@ creates x = leb 4 (callNumber x) && leb (callNumber x) 7
 unfoldable pub issues : Call → Bool
 issues x = eqb (callNumber x) 1 || creates x
 
--- what a history has issued, the latest first: Start f and f + 1, each granted call 1 or 4 to 7 its value
+-- the ids below n that are live in w, the greatest first
+unfoldable pub liveBelow : World → ℕ → List ℕ
+liveBelow w zero = []
+liveBelow w (suc n) = cond (isLive ((w .obj n) .kind)) (n ∷ liveBelow w n) (liveBelow w n)
+
+-- what a history has issued, the latest first: the ids that were there at its beginning (for Start f + 1 and f), then each granted call 1 or 4 to 7 its value
 unfoldable pub issued : History → List ℕ
-issued (started f) = (f + 1) ∷ f ∷ []
+issued (beginning w) = liveBelow w (w .next)
 issued (next h c x) = cond (eqb (answerOf (call (worldAfter h) c x)) 0 && issues x) (valueOf (call (worldAfter h) c x) ∷ issued h) (issued h)
 
 -- o is one of them

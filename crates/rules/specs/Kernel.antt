@@ -594,12 +594,16 @@ start f =
       linked = λ d o. eqb d f && eqb o (f + 1);
     }
 
--- ---- histories: a start, then any calls of any callers
+-- ---- histories: a world to begin with, then any calls of any callers
 
 pub data History : Type 0 where
-  started : (first : ℕ) → History
+  beginning : World → History
   next : History → (caller : ℕ) → Call → History
 
+-- Start is one such beginning
+abbrev pub started : ℕ → History
+started f = beginning (start f)
+
 unfoldable pub worldAfter : History → World
-worldAfter (started f) = start f
+worldAfter (beginning w) = w
 worldAfter (next h c x) = after (worldAfter h) c x

@@ -8,7 +8,7 @@ use lib.Dec.{eqb, leb}
 use lib.IntN.{pos, negsuc}
 use Rattle.labels.specs.Core.{mayWrite}
 use Rattle.quotas.specs.Sum.{Σ, when}
-use Rattle.rules.specs.Kernel.{World, isThread, isContainer, Call, createCategory, setLabel, setClearance, createContainer, createSegment, createGate, createThread, unreference, linkSegment, fixQuota, moveQuota, read, write, resize, enterGate, look, orDefault, containerDefault, segmentDefault, rootQuota, answerOf, call, History, started, next, worldAfter}
+use Rattle.rules.specs.Kernel.{World, isThread, isContainer, Call, createCategory, setLabel, setClearance, createContainer, createSegment, createGate, createThread, unreference, linkSegment, fixQuota, moveQuota, read, write, resize, enterGate, look, orDefault, containerDefault, segmentDefault, rootQuota, answerOf, call, History, beginning, next, worldAfter}
 
 -- ---- the ledger
 
@@ -57,7 +57,7 @@ grantedBy (movedIn d o n) p u = cond (eqb p o) (u + n) u
 grantedBy (movedBack d o n) p u = cond (eqb p o) (u - n) u
 
 unfoldable pub granted : History → ℕ → ℕ
-granted (started f) p = cond (eqb p f) rootQuota (cond (eqb p (f + 1)) 1 0)
+granted (beginning w) p = (w .obj p) .quota
 granted (next h c x) p = grantedBy (lineOf (worldAfter h) c x) p (granted h p)
 
 -- ---- RULES 3.8: ".. the quota it had when that link was made and the units moved from D into it since, and
@@ -72,7 +72,7 @@ chargeBy (movedIn d o n) e p u k = cond (eqb e d && eqb p o) (k + n) k
 chargeBy (movedBack d o n) e p u k = cond (eqb e d && eqb p o) (k - n) k
 
 unfoldable pub charge : History → ℕ → ℕ → ℕ
-charge (started f) e p = cond (eqb e f && eqb p (f + 1)) 1 0
+charge (beginning w) e p = cond (w .linked e p) ((w .obj p) .quota) 0
 charge (next h c x) e p = chargeBy (lineOf (worldAfter h) c x) e p (granted h p) (charge h e p)
 
 -- ---- RULES 3.8: ".. and 1. Then, for each object linked in D now, subtract ..": the spare of d, reckoned

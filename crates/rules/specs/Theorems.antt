@@ -6,6 +6,7 @@ pub mod Shrinks
 pub mod Holds
 pub mod Cuts
 pub mod StaysSound
+pub mod Beginnings
 pub mod Outputs
 pub mod Reckoned
 pub mod Exactly

@@ -5,7 +5,7 @@ use Prim.Native.Nat.{ℕ, _+_, _*_, _-_}
 use mathlib.Core.Bool.{Bool, false, cond, _&&_}
 use lib.ListN.{length, getD}
 use lib.Dec.{eqb, leb, ltb}
-use Rattle.rules.specs.Kernel.{Call, createCategory, setLabel, setClearance, createContainer, createSegment, createGate, createThread, unreference, linkSegment, fixQuota, moveQuota, read, write, resize, enterGate, look, call, answerOf, History, started, next, worldAfter, blockSize}
+use Rattle.rules.specs.Kernel.{Call, createCategory, setLabel, setClearance, createContainer, createSegment, createGate, createThread, unreference, linkSegment, fixQuota, moveQuota, read, write, resize, enterGate, look, call, answerOf, isLive, History, beginning, next, worldAfter, blockSize}
 
 -- place i of the segment s after a granted call, where `was` stood before it
 unfoldable pub leftBy : Call → ℕ → ℕ → ℕ → ℕ
@@ -27,10 +27,10 @@ leftBy (read d t k from count) s i was = was
 leftBy (enterGate d g lr cr lv out) s i was = was
 leftBy (look d o out) s i was = was
 
--- the byte last written at place i of the segment s, 0 where none was or where a resize has cut it off since.
+-- the byte last written at place i of the segment s; at first what the beginning has there, 0 where it has nothing or where a resize has cut it off since.
 -- Any answer but 0 writes nothing (RULES 6.14).
 unfoldable pub lastWritten : History → ℕ → ℕ → ℕ
-lastWritten (started f) s i = 0
+lastWritten (beginning w) s i = cond (isLive ((w .obj s) .kind)) (getD ((w .obj s) .bytes) i 0) 0
 lastWritten (next h c x) s i = cond (eqb (answerOf (call (worldAfter h) c x)) 0) (leftBy x s i (lastWritten h s i)) (lastWritten h s i)
 
 -- the call is a write or a resize of the segment s

@@ -5,7 +5,7 @@ use mathlib.Core.Path.{_≡_, sym, _∙_, ap, subst}
 use mathlib.Core.List.{List}
 use Rattle.rules.specs.Kernel.{World, Call, Verdict, call, after, answerOf, valueOf, History, worldAfter}
 use Rattle.rules.specs.Sound as rules
-use Rattle.rules.specs.Histories.{firstNumber, WellStarted}
+use Rattle.rules.specs.Histories.{firstWorld, WellStarted}
 use Rattle.rules.specs.Theorems.Refusals.{never-one}
 use Rattle.tainted.specs.Tainted as worlds
 use Rattle.tainted.specs.Tainted.{AlikeHistories, untaintedCaller}
@@ -74,6 +74,6 @@ module _ (v : ℕ) where
 
   -- and the start of the one is well made if that of the other is
   pub same-first : {p h k : History} → AlikeFrom v p h k → WellStarted h → WellStarted p
-  unfolding firstNumber
+  unfolding firstWorld
   same-first so-far e = e
   same-first (turn-each h k c x y r same) e = same-first r e

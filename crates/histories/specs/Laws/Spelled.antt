@@ -10,7 +10,8 @@ use borrow.Author.Tests.{eqb-true, eq-eqb}
 use Rattle.quotas.specs.Any.{both}
 use Rattle.rules.specs.Kernel.{World, Call, Verdict, call, after, startable, start, answerOf, valueOf, History, started, next, worldAfter}
 use Rattle.rules.specs.Laws.Bools.{then-l}
-use Rattle.rules.specs.Histories.{firstNumber, WellStarted}
+use Rattle.rules.specs.Histories.{firstWorld, WellStarted}
+use Rattle.rules.specs.Theorems.StaysSound.{start-is-sound}
 use Rattle.tables.specs.Layout.{View, view, size}
 use Rattle.book.specs.Book.{worldOf}
 use Rattle.book.specs.Enact.{areaSize, startView, startArea}
@@ -18,7 +19,8 @@ use Rattle.book.specs.Sound.{Sound}
 use Rattle.book.specs.Test.{areasB, soundB}
 use Rattle.book.specs.Laws.Clear.{Wiped, start-wiped}
 use Rattle.book.specs.Laws.Means.{sound-means}
-use Rattle.book.specs.Laws.Start.{start-world, start-is-sound}
+use Rattle.book.specs.Laws.Start as book
+use Rattle.book.specs.Laws.Start.{start-world}
 use Rattle.calls.specs.Outcome.{verdictOn, outputLeft, Left}
 use Rattle.calls.specs.Started.{lengthsRight, startAnswer}
 use Rattle.calls.specs.Started as calls
@@ -58,13 +60,13 @@ module _ (b area : List ℕ) (f : ℕ) (b′ area′ : List ℕ) (s : calls.Star
   area-long = ap length (s .area-made (sym (s .answer))) ∙ length-replicate {A = ℕ} areaSize 0
 
   begun-spelled : Spelled (started f) b′ area′
-  unfolding firstNumber worldAfter areasB
+  unfolding firstWorld worldAfter areasB
   begun-spelled =
       record {
-        started-well = granted .1;
+        started-well = start-is-sound f (granted .1);
         good =
             rw (eq-eqb (length b′) size book-long, eq-eqb (length area′) areaSize area-long)
-            (sound-means (view b′) .1 (subst Sound (sym (s .book-made (sym (s .answer)))) (start-is-sound f (granted .1))));
+            (sound-means (view b′) .1 (subst Sound (sym (s .book-made (sym (s .answer)))) (book.start-is-sound f (granted .1))));
         spells = ap₂ worldOf (s .book-made (sym (s .answer))) (s .area-made (sym (s .answer))) ∙ start-world f;
         wiped = subst (Wiped (view b′)) (sym (s .area-made (sym (s .answer)))) (start-wiped (view b′));
         bytes = whole;
@@ -92,7 +94,7 @@ module _ (h : History) (b area : List ℕ) (p : Spelled h b area) (c : ℕ) (x :
   ruled = subst (λ (w : World). AsRuled w c x out answer value b′ area′ out′) (p .spells) (ruled-on b area (p .good) c x out answer value b′ area′ out′ d)
 
   called-spelled : Spelled (next h c x) b′ area′
-  unfolding firstNumber worldAfter
+  unfolding firstWorld worldAfter
   called-spelled =
       record {
         started-well = p .started-well;

@@ -8,7 +8,7 @@ use lib.ListN.{replicate}
 use Rattle.labels.specs.Core.{plain, level1, level2}
 use borrow.Author.Tests.{eqb-true, eq-eqb, ne-eqb}
 use Rattle.quotas.specs.Any.{any-of}
-use Rattle.rules.specs.Kernel.{World, Obj, nothing, isLive, Edit, relabel, fix, requota, rewrite, edit, Change, keep, alter, create, cut, link, put, stays, kept, apply, Call, start, containerOf, threadOf, textSize, rootQuota, started, next, after}
+use Rattle.rules.specs.Kernel.{World, Obj, nothing, isLive, Edit, relabel, fix, requota, rewrite, edit, Change, keep, alter, create, cut, link, put, stays, kept, apply, Call, start, containerOf, threadOf, textSize, rootQuota, beginning, next, after}
 use Rattle.rules.specs.Sound.{Sound}
 use Rattle.rules.specs.Ledger.{Line, lineOf, grantedBy, granted, chargeBy, charge}
 use Rattle.rules.specs.Laws.Bools.{and-r, not-both, bool-cases, then-l, or-i-r}
@@ -134,24 +134,8 @@ module _ (w : World) (s : Sound w) (g : ℕ → ℕ) (k : ℕ → ℕ → ℕ) (
       each-call w c x (λ l u. Told u (λ p. grantedBy l p (g p)) (λ e p. chargeBy l e p (g p) (k e p)))
       (unfold grantedBy chargeBy in t) (told-booked c)
 
--- ---- at the start
+-- ---- at the beginning
 
-pub told-start : (f : ℕ) → Told (start f) (granted (started f)) (charge (started f))
-unfolding start granted charge put containerOf threadOf
-told-start f = record {
-  quotas = λ p. live (eqb p f) (eqb p (f + 1));
-  charges = λ e p h.
-      let q = eqb-true p (f + 1) (and-r (eqb e f) (eqb p (f + 1)) h) in
-      rw (h, ne-eqb p f (λ r. omega arith), eq-eqb p (f + 1) q);
-}
-  where
-    root : Obj
-    root = containerOf (plain level1) (replicate textSize 0) 0 rootQuota
-
-    thread : Obj
-    thread = threadOf (plain level1) (plain level2) (replicate textSize 0)
-
-    live : (a b : Bool) → isLive ((cond a root (cond b thread nothing)) .kind) ≡ true → cond a rootQuota (cond b 1 0) ≡ (cond a root (cond b thread nothing)) .quota
-    live true b h = refl
-    live false true h = refl
-    live false false h = not-both (isLive (nothing .kind)) h nothing-dead
+pub told-beginning : (w : World) → Told w (granted (beginning w)) (charge (beginning w))
+unfolding granted charge
+told-beginning w = record { quotas = λ p h. refl; charges = λ e p h. rw h }

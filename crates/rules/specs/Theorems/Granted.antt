@@ -6,7 +6,7 @@ use mathlib.Core.Bool.{true, false, cond}
 use mathlib.Core.Path.{_≡_, refl, _∙_, ap, subst}
 use borrow.Author.Tests.{le-leb}
 use Rattle.rules.specs.Kernel.{World, isLive, isSegment, isContainer, units, spareOf, Call, resize, call, after, answerOf, History, next, worldAfter}
-use Rattle.rules.specs.Histories.{firstNumber, WellStarted}
+use Rattle.rules.specs.Histories.{firstWorld, WellStarted}
 use Rattle.rules.specs.Ledger.{reckoned, spends, draws, needs, refusedEarlier, Meanwhile, nothingYet, another}
 use Rattle.rules.specs.Laws.Kinds.{segment-live, container-live}
 use Rattle.rules.specs.Laws.Lines.{each-call}
@@ -34,7 +34,7 @@ record Since (o : ℕ) (h k : History) : Type 0 where
   calm : isLive ((worldAfter k .obj o) .kind) ≡ true → Calm (worldAfter h) (worldAfter k) o
 
 since : (o : ℕ) (h : History) → WellStarted h → o < worldAfter h .next → {k : History} → Meanwhile o h k → Since o h k
-unfolding worldAfter firstNumber
+unfolding worldAfter firstWorld
 since o h s n nothingYet = record { well = s; old = n; calm = λ l. record { kind = refl; quota = omega arith; uses = omega arith } }
 since o h s n (another {k = k} c x m outside) =
     let r = since o h s n m in

@@ -12,11 +12,11 @@ use lib.ListN.{length, getD}
 use lib.Dec.{eqb}
 use lib.IntN.{pos, negsuc}
 use borrow.Author.Tests.{eqb-true, eq-eqb}
-use Rattle.rules.specs.Kernel.{isLive, Obj, World, Change, apply, Call, createCategory, setLabel, setClearance, createContainer, createSegment, createGate, createThread, unreference, linkSegment, fixQuota, moveQuota, read, write, resize, enterGate, look, grant, call, answerOf, valueOf, after, start, History, started, next, worldAfter, nothing}
-use Rattle.rules.specs.Issued.{callNumber, creates, issues, issued, Listed}
+use Rattle.rules.specs.Kernel.{isLive, Obj, World, Change, apply, Call, createCategory, setLabel, setClearance, createContainer, createSegment, createGate, createThread, unreference, linkSegment, fixQuota, moveQuota, read, write, resize, enterGate, look, grant, call, answerOf, valueOf, after, start, History, beginning, next, worldAfter}
+use Rattle.rules.specs.Issued.{callNumber, creates, issues, liveBelow, issued, Listed}
 use Rattle.rules.specs.Laws.Bools.{and-l, and-r, and-i, or-i-r, not-both}
-use Rattle.rules.specs.Laws.Kinds.{nothing-dead}
-use Rattle.rules.specs.Laws.Put.{put-at}
+use Rattle.rules.specs.Sound.{Sound}
+use Rattle.rules.specs.Histories.{firstWorld, WellStarted}
 use Rattle.rules.specs.Laws.Outcome.{outcome, call-outcome}
 use Rattle.rules.specs.Laws.Effects.{call-suits, apply-live, apply-made}
 use Rattle.rules.specs.Theorems.Refusals.{granted, refused-world, ended-world, number-taken}
@@ -143,9 +143,18 @@ next-up w c x = elim (ℕ-discrete (answerOf (call w c x)) 2) [
   | no n ↦ (let e = number-taken w c x n in omega arith)
 ]
 
+below-falling : (w : World) (n : ℕ) → Falling n (liveBelow w n)
+unfolding liveBelow
+below-falling w zero = tt
+below-falling w (suc n) = go (isLive ((w .obj n) .kind)) (below-falling w n)
+  where
+    go : (b : Bool) → Falling n (liveBelow w n) → Falling (suc n) (cond b (n ∷ liveBelow w n) (liveBelow w n))
+    go true f = (omega arith, f)
+    go false f = falling-up n (suc n) (liveBelow w n) (omega arith) f
+
 issued-falling : (h : History) → Falling (worldAfter h .next) (issued h)
-unfolding worldAfter issued start
-issued-falling (started f) = (omega arith, (omega arith, tt))
+unfolding worldAfter issued
+issued-falling (beginning w) = below-falling w (w .next)
 issued-falling (next h c x) = go (eqb (answerOf (call (worldAfter h) c x)) 0 && issues x) refl (issued-falling h)
   where
     w : World
@@ -175,19 +184,33 @@ issued-once h i j k l e = elim (decLt i j) [
   | no n ↦ elim (decLt j i) [ yes q ↦ absurd (omega (arith, issued-rise h j i q k)) | no m ↦ omega arith ]
 ]
 
+-- the live ids below n are among them
+live-listed : (w : World) (n o : ℕ) → o < n → isLive ((w .obj o) .kind) ≡ true → Listed o (liveBelow w n)
+unfolding liveBelow
+live-listed w zero o l k = absurd (not-suc-le-zero l)
+live-listed w (suc n) o l k = elim (ℕ-discrete o n) [
+  | yes e ↦ here (isLive ((w .obj n) .kind)) (ap (λ (i : ℕ). isLive ((w .obj i) .kind)) (sym e) ∙ k) e
+  | no e ↦ later (isLive ((w .obj n) .kind)) (live-listed w n o (omega arith) k)
+]
+  where
+    here : (b : Bool) → b ≡ true → o ≡ n → Listed o (cond b (n ∷ liveBelow w n) (liveBelow w n))
+    here true t e = (0, omega arith, sym e)
+    here false t e = absurd (false≢true t)
+
+    later : (b : Bool) → Listed o (liveBelow w n) → Listed o (cond b (n ∷ liveBelow w n) (liveBelow w n))
+    later true y = let (i, l, e) = y in (suc i, omega arith, e)
+    later false y = y
+
 -- Every live object has an id that was issued.
-pub live-issued : (h : History) (o : ℕ) → isLive ((worldAfter h .obj o) .kind) ≡ true → Listed o (issued h)
-unfolding worldAfter issued start
-live-issued (started f) o k =
-    let P : Type 0 = Listed o ((f + 1) ∷ f ∷ []) in
-    put-at (λ x. isLive (x .kind) ≡ true → P) f _ _ o (λ q z. (1, omega arith, sym q))
-    (λ n. put-at (λ x. isLive (x .kind) ≡ true → P) (f + 1) _ _ o (λ q z. (0, omega arith, sym q)) (λ m z. not-both (isLive (nothing .kind)) z nothing-dead)) k
-live-issued (next h c x) o k =
+pub live-issued : (h : History) → WellStarted h → (o : ℕ) → isLive ((worldAfter h .obj o) .kind) ≡ true → Listed o (issued h)
+unfolding worldAfter issued firstWorld
+live-issued (beginning w) s o k = live-listed w (w .next) o (s .ids o k .1) k
+live-issued (next h c x) s o k =
     let w = worldAfter h in
     let t = eqb (answerOf (call w c x)) 0 && issues x in
     let P : Type 0 = Listed o (cond t (valueOf (call w c x) ∷ issued h) (issued h)) in
     ⊎-elim {C = P}
-    (λ old. later t (valueOf (call w c x)) (live-issued h o old))
+    (λ old. later t (valueOf (call w c x)) (live-issued h s o old))
     (λ b.
     let u : t ≡ true = and-i (eqb (answerOf (call w c x)) 0) (issues x) (eq-eqb (answerOf (call w c x)) 0 (b .2)) (create-issues x (b .1)) in
     now t u (issuing-value w c x (b .2) (create-issues x (b .1)) ∙ sym (b .0)))

@@ -9,8 +9,9 @@ use lib.ListN.{length, getD, take, drop, length-drop}
 use lib.Seq.{length-take-le, getD-take, getD-drop}
 use lib.Dec.{eqb, leb}
 use borrow.Author.Tests.{eqb-true, eqb-false, eq-eqb, leb-true}
-use Rattle.rules.specs.Kernel.{isLive, Obj, World, rewrite, edit, Change, keep, alter, apply, Call, createCategory, setLabel, setClearance, createContainer, createSegment, createGate, createThread, unreference, linkSegment, fixQuota, moveQuota, read, write, resize, enterGate, look, grant, goodArguments, judge, call, answerOf, valueOf, outputOf, after, overwrite, resized, blockSize, maxBlock, start, History, started, next, worldAfter, nothing, containerOf, threadOf}
+use Rattle.rules.specs.Kernel.{isLive, Obj, World, rewrite, edit, Change, keep, alter, apply, Call, createCategory, setLabel, setClearance, createContainer, createSegment, createGate, createThread, unreference, linkSegment, fixQuota, moveQuota, read, write, resize, enterGate, look, grant, goodArguments, judge, call, answerOf, valueOf, outputOf, after, overwrite, resized, blockSize, maxBlock, start, History, beginning, next, worldAfter}
 use Rattle.rules.specs.Sound.{Sound}
+use Rattle.rules.specs.Histories.{firstWorld, WellStarted}
 use Rattle.rules.specs.Written.{leftBy, lastWritten, rewrites}
 use Rattle.rules.specs.Laws.Bools.{and-r, bool-cases, not-both}
 use Rattle.rules.specs.Laws.Kinds.{segment-live, nothing-dead}
@@ -171,31 +172,30 @@ told-after w f t c x = go (eqb (answerOf (call w c x)) 0) refl
       | no n ↦ subst (λ (u : World). Told u f) (sym (refused-world w c x (eqb-false (answerOf (call w c x)) 0 e) n)) (told-kept w f t)
     ]
 
-told-start : (f : ℕ) → Told (start f) (λ s i. 0)
-unfolding start containerOf threadOf nothing
-told-start f = record {
-  ids = λ s. put-at (λ x. isLive (x .kind) ≡ true → s < f + 2) f _ _ s (λ q k. omega arith)
-      (λ n. put-at (λ x. isLive (x .kind) ≡ true → s < f + 2) (f + 1) _ _ s (λ q k. omega arith) (λ m k. not-both (isLive (nothing .kind)) k nothing-dead));
-  to-come = λ s i l. refl;
-  shown = λ s i k. put-at (λ x. getD (x .bytes) i 0 ≡ 0) f _ _ s (λ q. refl) (λ n. put-at (λ x. getD (x .bytes) i 0 ≡ 0) (f + 1) _ _ s (λ q. refl) (λ m. refl));
+told-beginning : (w : World) → Sound w → Told w (lastWritten (beginning w))
+unfolding lastWritten
+told-beginning w s = record {
+  ids = λ o k. s .ids o k .1;
+  to-come = λ o i l. bool-cases (isLive ((w .obj o) .kind)) (λ k. absurd (let z = s .ids o k .1 in omega arith)) (λ k. rw k);
+  shown = λ o i k. rw k;
 }
 
-told : (h : History) → Told (worldAfter h) (lastWritten h)
-unfolding worldAfter lastWritten
-told (started f) = told-start f
-told (next h c x) = told-after (worldAfter h) (lastWritten h) (told h) c x
+told : (h : History) → WellStarted h → Told (worldAfter h) (lastWritten h)
+unfolding worldAfter firstWorld lastWritten
+told (beginning w) s = told-beginning w s
+told (next h c x) s = told-after (worldAfter h) (lastWritten h) (told h s) c x
 
 -- ---- the theorem
 
 -- After every history, each byte of each live segment is the one last written there, or 0 where none was since it was last cleared; beyond its length, 0.
-pub reads-last-written : (h : History) (s i : ℕ) → isLive ((worldAfter h .obj s) .kind) ≡ true → getD ((worldAfter h .obj s) .bytes) i 0 ≡ lastWritten h s i
-reads-last-written h s i k = told h .shown s i k
+pub reads-last-written : (h : History) → WellStarted h → (s i : ℕ) → isLive ((worldAfter h .obj s) .kind) ≡ true → getD ((worldAfter h .obj s) .bytes) i 0 ≡ lastWritten h s i
+reads-last-written h g s i k = told h g .shown s i k
 
 -- A granted read after any history puts out exactly as many bytes as it asked for, each the one last written at its place.
-pub read-shows : (h : History) (c d s k f n : ℕ) → answerOf (call (worldAfter h) c (read d s k f n)) ≡ 0
+pub read-shows : (h : History) → WellStarted h → (c d s k f n : ℕ) → answerOf (call (worldAfter h) c (read d s k f n)) ≡ 0
     → (length (outputOf (call (worldAfter h) c (read d s k f n))) ≡ n)
     × ((i : ℕ) → i < n → getD (outputOf (call (worldAfter h) c (read d s k f n))) i 0 ≡ lastWritten h s (blockSize * k + f + i))
-read-shows h c d s k f n a = let g = granted (worldAfter h) c (read d s k f n) a in shows _ _ (g .change) (g .verdict)
+read-shows h well c d s k f n a = let g = granted (worldAfter h) c (read d s k f n) a in shows _ _ (g .change) (g .verdict)
   where
     bytes : List ℕ
     bytes = (worldAfter h .obj s) .bytes
@@ -207,7 +207,7 @@ read-shows h c d s k f n a = let g = granted (worldAfter h) c (read d s k f n) a
         let q : b ≡ take n (drop (blockSize * k + f) bytes) = read-output (worldAfter h) c v b g d s k f n e in (
           ap length q ∙ length-take-le n (drop (blockSize * k + f) bytes) (simp length-drop (omega arith)),
           λ i m. ap (λ (y : List ℕ). getD y i 0) q ∙ getD-take n (drop (blockSize * k + f) bytes) i 0 m ∙ getD-drop (blockSize * k + f) bytes i 0
-              ∙ reads-last-written h s (blockSize * k + f + i) (read-live (worldAfter h) c v b g d s k f n e),
+              ∙ reads-last-written h well s (blockSize * k + f + i) (read-live (worldAfter h) c v b g d s k f n e),
         )
 
 -- No call on one segment changes a byte of another: in a sound world, the bytes of a segment that lives on are the same after every call, granted or

@@ -4,20 +4,20 @@ use native.Mathlib.Omega.{arith}
 use mathlib.Core.Bool.{true}
 use mathlib.Core.Path.{_≡_}
 use Rattle.quotas.specs.Sum.{Σ, when, sum-cong, when-cong}
-use Rattle.rules.specs.Kernel.{Call, Change, isContainer, charged, spareOf, History, started, next, worldAfter}
-use Rattle.rules.specs.Histories.{firstNumber, WellStarted}
+use Rattle.rules.specs.Kernel.{Call, Change, isContainer, charged, spareOf, History, beginning, next, worldAfter}
+use Rattle.rules.specs.Histories.{firstWorld, WellStarted}
 use Rattle.rules.specs.Ledger.{Line, lineOf, granted, charge, reckoned, BackWasThere}
 use Rattle.rules.specs.Laws.Kinds.{container-live}
 use Rattle.rules.specs.Laws.Usage.{use-container}
 use Rattle.rules.specs.Laws.Booked.{Booked, keeps, relabels, fixes, rewrites, cuts, makes, ties, moves, takes}
 use Rattle.rules.specs.Laws.Lines.{each-call}
-use Rattle.rules.specs.Laws.Told.{Told, told-start, told-call}
+use Rattle.rules.specs.Laws.Told.{Told, told-beginning, told-call}
 use Rattle.rules.specs.Theorems.StaysSound.{history-sound}
 
 -- After any calls from a start, the ledger tells every live object's quota and every link's charge.
 pub told : (h : History) → WellStarted h → Told (worldAfter h) (granted h) (charge h)
-unfolding worldAfter firstNumber granted charge
-told (started f) s = told-start f
+unfolding worldAfter firstWorld granted charge
+told (beginning w) s = told-beginning w
 told (next h c x) s = told-call (worldAfter h) (history-sound h s) (granted h) (charge h) (told h s) c x
 
 -- so the charges of what is linked in d add up to what d is charged with

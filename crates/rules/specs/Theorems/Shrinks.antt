@@ -6,7 +6,7 @@ use mathlib.Core.Path.{_≡_}
 use Rattle.labels.specs.Core.{mayWrite}
 use Rattle.rules.specs.Kernel.{World, isLive, isThread, isContainer, Call, spareOf, after, History, next, worldAfter}
 use Rattle.rules.specs.Sound.{Sound}
-use Rattle.rules.specs.Histories.{firstNumber, WellStarted}
+use Rattle.rules.specs.Histories.{firstWorld, WellStarted}
 use Rattle.rules.specs.Ledger.{reckoned, writer}
 use Rattle.rules.specs.Laws.Bools.{and-r, bool-cases}
 use Rattle.rules.specs.Laws.Kinds.{container-live}
@@ -38,7 +38,7 @@ module _ (w : World) (s : Sound w) (c : ℕ) (x : Call) (o : ℕ) (live : isLive
 -- The spare that the history tells of a container shrinks only by a call of a live thread whose label may write that container.
 pub reckoned-shrinks-by : (h : History) → WellStarted h → (c : ℕ) (x : Call) (d : ℕ) → isContainer ((worldAfter h .obj d) .kind) ≡ true
     → isLive ((worldAfter (next h c x) .obj d) .kind) ≡ true → reckoned (next h c x) d < reckoned h d → writer (worldAfter h) c d ≡ true
-unfolding worldAfter firstNumber
+unfolding worldAfter firstWorld
 reckoned-shrinks-by h s c x d is still less =
     let w = worldAfter h in
     let live = container-live ((w .obj d) .kind) is in

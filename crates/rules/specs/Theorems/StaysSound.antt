@@ -4,9 +4,9 @@ use mathlib.Core.Bool.{Bool, true, false, cond}
 use mathlib.Core.Path.{_≡_, refl, sym, subst}
 use lib.Dec.{leb}
 use borrow.Author.Tests.{leb-false}
-use Rattle.rules.specs.Kernel.{World, Call, keep, apply, Verdict, refuse, grant, call, leaves, after, startable, start, lastNumber, History, started, next, worldAfter}
+use Rattle.rules.specs.Kernel.{World, Call, keep, apply, Verdict, refuse, grant, call, leaves, after, startable, start, lastNumber, History, beginning, next, worldAfter}
 use Rattle.rules.specs.Sound.{Sound}
-use Rattle.rules.specs.Histories.{firstNumber, WellStarted}
+use Rattle.rules.specs.Histories.{firstWorld, WellStarted}
 use Rattle.rules.specs.Laws.Bools.{bool-cases}
 use Rattle.rules.specs.Laws.Must.{passed}
 use Rattle.rules.specs.Laws.Grants.{grants-fair}
@@ -37,6 +37,6 @@ start-is-sound f g = start-sound f g
 
 -- The world after any history is sound.
 pub history-sound : (h : History) → WellStarted h → Sound (worldAfter h)
-unfolding worldAfter firstNumber
-history-sound (started f) g = start-sound f g
+unfolding worldAfter firstWorld
+history-sound (beginning w) g = g
 history-sound (next h c x) g = stays-sound (worldAfter h) (history-sound h g) c x
