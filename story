@@ -5,7 +5,7 @@ cd "$(dirname "$0")"
 . hosts/c/machine.bash
 
 need_kit
-.ci/install story
+.ci/install story >&2
 need_archive
 mkdir -p target/c
 compile target/c/story -O2 hosts/c/story/*.c
