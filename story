@@ -4,7 +4,8 @@ set -euo pipefail
 cd "$(dirname "$0")"
 . hosts/c/machine.bash
 
-need_compiler
+need_kit
+.ci/install story >&2
 need_archive
 mkdir -p target/c
 compile target/c/story -O2 hosts/c/story/*.c

@@ -1,6 +1,6 @@
 /*
- * Small helpers for a C host of Flytewood: labels made from pairs, and numbers named in words. They need no kernel and
- * keep nothing; compile flytewood_help.c with the host.
+ * Small helpers for a C host of Flytewood: slices lent in a word, labels made from pairs, and numbers named in words.
+ * The functions need no kernel and keep nothing; compile flytewood_help.c with the host.
  */
 #ifndef FLYTEWOOD_HELP_H
 #define FLYTEWOOD_HELP_H
@@ -14,10 +14,26 @@
 extern "C" {
 #endif
 
-/* A label or clearance, as the calls take it: lend `bytes` and FW_LABEL_LEN. */
+/* The two areas that are lent to every call, with room for any book. Between calls only calls touch them. */
+typedef struct {
+    uint8_t book[FW_BOOK_MAX];
+    uint8_t area[FW_AREA_LEN];
+} fwh_areas;
+
+/* A label or clearance, as the calls take it. */
 typedef struct {
     uint8_t bytes[FW_LABEL_LEN];
 } fwh_label;
+
+/*
+ * A slice is two arguments, a pointer and a length. Each of these stands for both, or for the four of the areas:
+ *     fw_create_container(FWH_AREAS(areas), 101, 100, FWH_LABEL(label), FWH_BYTES(about), 0, 20, &room)
+ * `areas` is a fwh_areas, or a variable of any struct that has its two members; `label` is a fwh_label; `array` is an
+ * array of bytes, lent whole. With a pointer one writes FWH_LABEL(*pointer).
+ */
+#define FWH_AREAS(areas) (areas).book, fw_book_len(), (areas).area, sizeof((areas).area)
+#define FWH_LABEL(label) (label).bytes, sizeof((label).bytes)
+#define FWH_BYTES(array) (array), sizeof(array)
 
 /* What a label says of one category: a level code, FW_STAR to FW_LEVEL_3. */
 typedef struct {
@@ -50,8 +66,8 @@ uint64_t fwh_word_at(const fwh_label *label, size_t index);
 #define FWH_LABEL_TEXT 224
 
 /*
- * Writes the label as page 01 does, levels by their own numbers and star as a word: "{7:star, 102:3, 1}". Cut to fit
- * `size` with its closing zero, as snprintf does; returns the length it has uncut.
+ * Writes the label as docs/RULES.md does, levels by their own numbers and star as a word: "{7:star, 102:3, 1}". Cut to
+ * fit `size` with its closing zero, as snprintf does; returns the length it has uncut.
  */
 size_t fwh_label_text(const fwh_label *label, char *text, size_t size);
 

@@ -1,4 +1,4 @@
-/* Page 01's day through the C interface, from 100 on. A line a call: number, caller, call, answer, value. */
+/* The day of docs/RULES.md through the C interface, from 100 on. A line a call: number, caller, call, answer, value. */
 #include <inttypes.h>
 #include <stdio.h>
 #include <stdlib.h>
@@ -10,16 +10,9 @@
 #define ROOT FIRST
 #define HEAD (FIRST + 1)
 
-static uint8_t book[FW_BOOK_MAX];
-static uint8_t area[FW_AREA_LEN];
-static uint64_t book_len;
+static fwh_areas areas;
+static const uint8_t nothing[FW_DESCRIPTION_LEN];
 static uint64_t number = FIRST + 2;
-
-#define AREAS book, book_len, area, sizeof area
-#define LABEL(l) (l).bytes, FW_LABEL_LEN
-
-static const uint8_t no_description[FW_DESCRIPTION_LEN];
-#define NO_DESCRIPTION no_description, sizeof no_description
 
 static fwh_label plain(void)
 {
@@ -46,70 +39,72 @@ static void line(uint64_t caller, int call, uint64_t answer, uint64_t value)
 static void category(uint64_t caller)
 {
     uint64_t value;
-    uint64_t answer = fw_create_category(AREAS, caller, &value);
+    uint64_t answer = fw_create_category(FWH_AREAS(areas), caller, &value);
     line(caller, 1, answer, value);
 }
 
 static void set_label(uint64_t caller, fwh_label label)
 {
     uint64_t value;
-    uint64_t answer = fw_set_label(AREAS, caller, LABEL(label), &value);
+    uint64_t answer = fw_set_label(FWH_AREAS(areas), caller, FWH_LABEL(label), &value);
     line(caller, 2, answer, value);
 }
 
 static void container(uint64_t caller, uint64_t d, fwh_label label, uint64_t quota)
 {
     uint64_t value;
-    uint64_t answer = fw_create_container(AREAS, caller, d, LABEL(label), NO_DESCRIPTION, 0, quota, &value);
+    uint64_t answer = fw_create_container(FWH_AREAS(areas), caller, d, FWH_LABEL(label), FWH_BYTES(nothing), 0, quota,
+                                          &value);
     line(caller, 4, answer, value);
 }
 
 static void segment(uint64_t caller, uint64_t d, fwh_label label, uint64_t quota)
 {
     uint64_t value;
-    uint64_t answer = fw_create_segment(AREAS, caller, d, LABEL(label), NO_DESCRIPTION, quota, &value);
+    uint64_t answer = fw_create_segment(FWH_AREAS(areas), caller, d, FWH_LABEL(label), FWH_BYTES(nothing), quota,
+                                        &value);
     line(caller, 5, answer, value);
 }
 
 static void thread(uint64_t caller, uint64_t d, fwh_label label, fwh_label clearance)
 {
     uint64_t value;
-    uint64_t answer = fw_create_thread(AREAS, caller, d, LABEL(label), LABEL(clearance), NO_DESCRIPTION, &value);
+    uint64_t answer = fw_create_thread(FWH_AREAS(areas), caller, d, FWH_LABEL(label), FWH_LABEL(clearance),
+                                       FWH_BYTES(nothing), &value);
     line(caller, 7, answer, value);
 }
 
 static void unreference(uint64_t caller, uint64_t d, uint64_t o)
 {
     uint64_t value;
-    uint64_t answer = fw_unreference(AREAS, caller, d, o, &value);
+    uint64_t answer = fw_unreference(FWH_AREAS(areas), caller, d, o, &value);
     line(caller, 8, answer, value);
 }
 
 static void move_quota(uint64_t caller, uint64_t d, uint64_t o, int64_t n)
 {
     uint64_t value;
-    uint64_t answer = fw_move_quota(AREAS, caller, d, o, n, &value);
+    uint64_t answer = fw_move_quota(FWH_AREAS(areas), caller, d, o, n, &value);
     line(caller, 11, answer, value);
 }
 
 static void read_bytes(uint64_t caller, uint64_t d, uint64_t s, uint64_t k, uint64_t from, uint64_t count)
 {
     uint64_t value, place, length;
-    uint64_t answer = fw_read(AREAS, caller, d, s, k, from, count, &place, &length, &value);
+    uint64_t answer = fw_read(FWH_AREAS(areas), caller, d, s, k, from, count, &place, &length, &value);
     line(caller, 12, answer, value);
 }
 
 static void resize(uint64_t caller, uint64_t d, uint64_t s, uint64_t length)
 {
     uint64_t value;
-    uint64_t answer = fw_resize(AREAS, caller, d, s, length, &value);
+    uint64_t answer = fw_resize(FWH_AREAS(areas), caller, d, s, length, &value);
     line(caller, 14, answer, value);
 }
 
 int main(void)
 {
-    book_len = fw_book_len();
-    if (book_len > sizeof book || fw_start(AREAS, FIRST) != FW_GRANTED) {
+    if (fw_start(FWH_AREAS(areas), FIRST) != FW_GRANTED) {
         fputs("grantday: the kernel did not start\n", stderr);
         return 1;
     }

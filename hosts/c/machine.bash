@@ -3,55 +3,22 @@
 # archive of that folder is used as it is.
 
 archive=${FLYTEWOOD_ARCHIVE_DIR:-target/staticlib}/libflytewood.a
+archive_folder=$(realpath -m "$(dirname "$archive")")
 c_warnings=(-std=c99 -Wall -Wextra -Wpedantic -Wconversion -Werror)
 
 if [ "$(uname -m)" = x86_64 ] && [ "${FLYTEWOOD_EMULATED:-0}" != 1 ]; then
     emulated=''
     compiler=(cc)
+    cpp_compiler=(g++)
     runner=()
 else
     emulated=yes
     compiler=(x86_64-linux-gnu-gcc -static)
+    cpp_compiler=(x86_64-linux-gnu-g++ -static)
     runner=(qemu-x86_64)
 fi
-
-# Says which of the commands are missing, with their Debian packages, and ends if any is.
-need() {
-    local missing='' packages='' pair
-    for pair in "$@"; do
-        if ! command -v "${pair%%=*}" >/dev/null; then
-            missing+=" ${pair%%=*}"
-            packages+=" ${pair#*=}"
-        fi
-    done
-    if [ -n "$missing" ]; then
-        echo "missing:$missing. On Debian: apt-get install$packages" >&2
-        exit 1
-    fi
-}
-
-need_compiler() {
-    if [ -z "$emulated" ]; then
-        need cc=gcc
-    elif [ "$(uname -m)" = x86_64 ]; then
-        need x86_64-linux-gnu-gcc=gcc qemu-x86_64=qemu-user
-    else
-        need x86_64-linux-gnu-gcc=gcc-x86-64-linux-gnu qemu-x86_64=qemu-user
-        need_library
-    fi
-}
-
-# The C library for x86-64 comes as a package of its own elsewhere.
-need_library() {
-    local program
-    program=$(mktemp)
-    if ! echo 'int main(void) { return 0; }' | "${compiler[@]}" -x c - -o "$program" 2>/dev/null; then
-        rm -f "$program"
-        echo "missing: the C library for x86-64. On Debian: apt-get install libc6-dev-amd64-cross" >&2
-        exit 1
-    fi
-    rm -f "$program"
-}
+# Debian's rustc has a library for x86-64 on a machine of any kind, which another one may lack.
+rustc=${FLYTEWOOD_RUSTC:-/usr/bin/rustc}
 
 # Whether a file of the crates that the archive is made of is newer than it.
 archive_is_old() {
@@ -63,19 +30,27 @@ archive_is_old() {
     return 1
 }
 
-# Builds the archive if it is missing or old.
-need_archive() {
-    if [ -f "$archive" ] && { [ -n "${FLYTEWOOD_ARCHIVE_DIR:-}" ] || ! archive_is_old; }; then
-        return
-    fi
+archive_is_ready() {
+    [ -f "$archive" ] && { [ -n "${FLYTEWOOD_ARCHIVE_DIR:-}" ] || ! archive_is_old; }
+}
+
+# Ends with what is missing, if there is no archive and no way to build it. Scripts ask first of all.
+need_kit() {
+    archive_is_ready && return
     if [ -n "${FLYTEWOOD_ARCHIVE_DIR:-}" ]; then
         echo "missing: $archive" >&2
         exit 1
     fi
     if ! command -v rt >/dev/null; then
-        echo "missing: rt, the Rattle kit's command, to prove the kernel and build $archive (see README.md)" >&2
+        echo "missing: rt, the Rattle kit's command, to prove the kernel and build $archive (README.md, \"What you need\")" >&2
         exit 1
     fi
+}
+
+# Builds the archive if it is missing or old.
+need_archive() {
+    need_kit
+    archive_is_ready && return
     echo "proving the kernel and building $archive (minutes on a new machine; each crate is named once proved)" >&2
     rt staticlib flytewood 2>&1 | grep --line-buffered '^rt:' >&2 || {
         echo "the archive could not be built; target/log/ has what rt said" >&2
@@ -91,3 +66,9 @@ compile() {
 }
 
 run() { "${runner[@]}" "$@"; }
+
+# rust_for_x86_64 WORD..: rustc where cargo would build for the machine itself.
+rust_for_x86_64() {
+    "$rustc" --edition 2021 --target x86_64-unknown-linux-gnu -C linker=x86_64-linux-gnu-gcc \
+        -C target-feature=+crt-static -C relocation-model=static "$@"
+}

@@ -1,4 +1,7 @@
-//! Writes histories as antt source: the calls, what is said to them, and that running the one gives the other.
+//! Writes histories as antt source: the calls, what is said to them, and that running the one gives the other. This is
+//! the one file of hosts/ that knows the specification, by its names: those of the calls, with the order of their
+//! arguments, and those of the definitions that are opened so that a history computes. What is said to a call is the
+//! model's.
 
 use crate::history::{History, Turn};
 use crate::labels::{category_of, code_of, Label};

@@ -5,6 +5,7 @@ mod asking;
 mod books;
 mod cases;
 mod clock;
+mod limit;
 mod report;
 mod stack;
 
@@ -13,25 +14,48 @@ use books::CALLER;
 use cases::{cases, Case, SIZES};
 use clock::Clock;
 use flytewood_hosts::ask;
+use flytewood_hosts::model::Call;
 use report::{Depth, Line};
 use std::env;
+use std::io;
+use std::process::ExitCode;
 
 const SAMPLES: usize = 2_000;
 const KERNELS: [Asked; 2] = [proved, written_in_rust];
 
-/// Takes the number of samples; or, for a profiler, a kernel (proved or rust), a call as the table names it, a size and
-/// how often to make the call.
-fn main() {
+/// Takes the number of samples, and the exit status is 1 if the kernel is too slow. Or, for a profiler, a kernel (proved
+/// or rust), a call as the table names it, a size and how often to make the call. Or, to try the limit: a number of
+/// samples and `slowed`, for a kernel that is too slow, or `judge`, for ratios from the standard input.
+fn main() -> ExitCode {
     let arguments: Vec<String> = env::args().skip(1).collect();
-    if let [kernel, name, size, times] = &arguments[..] {
-        return repeat(kernel, name, number(size), number(times));
+    let words: Vec<&str> = arguments.iter().map(|word| &word[..]).collect();
+    let kept = match &words[..] {
+        [] => measure(SAMPLES, KERNELS),
+        ["judge"] => limit::is_kept(&limit::read(io::stdin().lock())),
+        [samples] => measure(number(samples), KERNELS),
+        [samples, "slowed"] => measure(number(samples), [slowed, written_in_rust]),
+        [kernel, name, size, times] => repeat(kernel, name, number(size), number(times)),
+        _ => panic!("unknown arguments: {:?}", words),
+    };
+    if kept {
+        ExitCode::SUCCESS
+    } else {
+        ExitCode::FAILURE
     }
-    let samples = arguments.first().map_or(SAMPLES, |text| number(text));
-    let clock = Clock::new(samples.max(1));
-    let table = table(&clock);
+}
+
+/// Prints all tables; whether the limit is kept.
+fn measure(samples: usize, kernels: [Asked; 2]) -> bool {
+    let table = table(&Clock::new(samples.max(1)), kernels);
     report::print_times(&SIZES, &table);
     report::print_growth(&table);
     report::print_stack(&depths());
+    limit::is_kept(&report::ratios(&table))
+}
+
+/// A kernel that is too slow.
+fn slowed(areas: &mut Areas, caller: u64, call: &Call, given: &mut Given) {
+    (0..5).for_each(|_| proved(areas, caller, call, given));
 }
 
 fn number(text: &str) -> usize {
@@ -39,14 +63,15 @@ fn number(text: &str) -> usize {
 }
 
 /// A row for each call, in which its lines stand by size.
-fn table(clock: &Clock) -> Vec<Vec<Line>> {
+fn table(clock: &Clock, kernels: [Asked; 2]) -> Vec<Vec<Line>> {
     let books: Vec<Vec<Case>> = SIZES.iter().map(|size| cases(*size)).collect();
     books.iter().flatten().for_each(same_in_both);
-    (0..books[0].len()).map(|row| lines(clock, books.iter().map(|list| &list[row]).collect())).collect()
+    let row = |row: usize| books.iter().map(|list| &list[row]).collect();
+    (0..books[0].len()).map(|place| lines(clock, kernels, row(place))).collect()
 }
 
-fn lines(clock: &Clock, row: Vec<&Case>) -> Vec<Line> {
-    let times = clock.race(&row, KERNELS);
+fn lines(clock: &Clock, kernels: [Asked; 2], row: Vec<&Case>) -> Vec<Line> {
+    let times = clock.race(&row, kernels);
     let line = |(case, times): (&&Case, _)| Line { name: case.name, objects: case.objects, times };
     row.iter().zip(times).map(line).collect()
 }
@@ -77,7 +102,7 @@ fn depths() -> Vec<Depth> {
 }
 
 /// One kernel and one call, many times.
-fn repeat(kernel: &str, name: &str, size: usize, times: usize) {
+fn repeat(kernel: &str, name: &str, size: usize, times: usize) -> bool {
     let kernel = if kernel == "proved" { proved } else { written_in_rust };
     let made = cases(size);
     let case = made.iter().find(|case| case.name == name).expect("a call as the table names it");
@@ -87,4 +112,5 @@ fn repeat(kernel: &str, name: &str, size: usize, times: usize) {
         kernel(&mut areas, CALLER, &case.call, &mut given);
     }
     println!("{}, {} objects, {} times: answer {}", name, case.objects, times, given.answer);
+    true
 }

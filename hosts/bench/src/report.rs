@@ -2,6 +2,7 @@
 //! kernel's.
 
 use crate::clock::Times;
+use crate::limit::Ratio;
 
 /// The aim (docs/PERFORMANCE.md): a ratio of at most 1.2 for every call at every size.
 const AIM: f64 = 1.2;
@@ -24,6 +25,12 @@ impl Line {
     fn ratio(&self) -> f64 {
         self.times.first / self.times.second
     }
+}
+
+/// Every ratio of the table, named.
+pub fn ratios(table: &[Vec<Line>]) -> Vec<Ratio> {
+    let named = |line: &Line| format!("{}, at {} objects", line.name, line.objects);
+    table.iter().flatten().map(|line| Ratio { name: named(line), ratio: line.ratio() }).collect()
 }
 
 /// A cell for each column, the first to the left, and a rule below the head.

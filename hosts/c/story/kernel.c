@@ -2,9 +2,6 @@
 
 #include <string.h>
 
-#define AREAS(k) (k)->book, (k)->book_len, (k)->area, sizeof (k)->area
-#define LABEL(l) (l)->bytes, (uint64_t)FW_LABEL_LEN
-
 typedef struct {
     uint8_t bytes[FW_DESCRIPTION_LEN];
 } description;
@@ -60,12 +57,9 @@ static reply issued(kernel *k, uint64_t answer, uint64_t value)
 
 reply kernel_start(kernel *k, uint64_t first)
 {
-    reply r = {FW_BAD_AREA, 0};
+    reply r = {FW_GRANTED, 0};
     memset(k, 0, sizeof *k);
-    k->book_len = fw_book_len();
-    if (k->book_len <= sizeof k->book) {
-        r.answer = fw_start(AREAS(k), first);
-    }
+    r.answer = fw_start(FWH_AREAS(*k), first);
     k->number = first + 2;
     return r;
 }
@@ -74,7 +68,7 @@ reply make_category(kernel *k, uint64_t caller)
 {
     uint64_t value = 0, answer;
     watch(k);
-    answer = fw_create_category(AREAS(k), caller, &value);
+    answer = fw_create_category(FWH_AREAS(*k), caller, &value);
     return issued(k, answer, value);
 }
 
@@ -82,7 +76,7 @@ reply set_label(kernel *k, uint64_t caller, const fwh_label *label)
 {
     uint64_t value = 0, answer;
     watch(k);
-    answer = fw_set_label(AREAS(k), caller, LABEL(label), &value);
+    answer = fw_set_label(FWH_AREAS(*k), caller, FWH_LABEL(*label), &value);
     return seen(k, answer, value);
 }
 
@@ -91,7 +85,7 @@ reply make_container(kernel *k, uint64_t caller, uint64_t d, const fwh_label *la
     description about = described(name);
     uint64_t value = 0, answer;
     watch(k);
-    answer = fw_create_container(AREAS(k), caller, d, LABEL(label), about.bytes, sizeof about.bytes, 0, quota, &value);
+    answer = fw_create_container(FWH_AREAS(*k), caller, d, FWH_LABEL(*label), FWH_BYTES(about.bytes), 0, quota, &value);
     return issued(k, answer, value);
 }
 
@@ -100,7 +94,7 @@ reply make_segment(kernel *k, uint64_t caller, uint64_t d, const fwh_label *labe
     description about = described(name);
     uint64_t value = 0, answer;
     watch(k);
-    answer = fw_create_segment(AREAS(k), caller, d, LABEL(label), about.bytes, sizeof about.bytes, quota, &value);
+    answer = fw_create_segment(FWH_AREAS(*k), caller, d, FWH_LABEL(*label), FWH_BYTES(about.bytes), quota, &value);
     return issued(k, answer, value);
 }
 
@@ -110,8 +104,8 @@ reply make_thread(kernel *k, uint64_t caller, uint64_t d, const fwh_label *label
     description about = described(name);
     uint64_t value = 0, answer;
     watch(k);
-    answer = fw_create_thread(AREAS(k), caller, d, LABEL(label), LABEL(clearance), about.bytes, sizeof about.bytes,
-                              &value);
+    answer = fw_create_thread(FWH_AREAS(*k), caller, d, FWH_LABEL(*label), FWH_LABEL(*clearance),
+                              FWH_BYTES(about.bytes), &value);
     return issued(k, answer, value);
 }
 
@@ -119,7 +113,7 @@ reply unreference(kernel *k, uint64_t caller, uint64_t d, uint64_t o)
 {
     uint64_t value = 0, answer;
     watch(k);
-    answer = fw_unreference(AREAS(k), caller, d, o, &value);
+    answer = fw_unreference(FWH_AREAS(*k), caller, d, o, &value);
     return seen(k, answer, value);
 }
 
@@ -127,7 +121,7 @@ reply link_segment(kernel *k, uint64_t caller, uint64_t d1, uint64_t o, uint64_t
 {
     uint64_t value = 0, answer;
     watch(k);
-    answer = fw_link_segment(AREAS(k), caller, d1, o, d, &value);
+    answer = fw_link_segment(FWH_AREAS(*k), caller, d1, o, d, &value);
     return seen(k, answer, value);
 }
 
@@ -135,7 +129,7 @@ reply fix_quota(kernel *k, uint64_t caller, uint64_t d, uint64_t o)
 {
     uint64_t value = 0, answer;
     watch(k);
-    answer = fw_fix_quota(AREAS(k), caller, d, o, &value);
+    answer = fw_fix_quota(FWH_AREAS(*k), caller, d, o, &value);
     return seen(k, answer, value);
 }
 
@@ -143,7 +137,7 @@ reply move_quota(kernel *k, uint64_t caller, uint64_t d, uint64_t o, int64_t n)
 {
     uint64_t value = 0, answer;
     watch(k);
-    answer = fw_move_quota(AREAS(k), caller, d, o, n, &value);
+    answer = fw_move_quota(FWH_AREAS(*k), caller, d, o, n, &value);
     return seen(k, answer, value);
 }
 
@@ -151,7 +145,7 @@ reply resize(kernel *k, uint64_t caller, uint64_t d, uint64_t s, uint64_t length
 {
     uint64_t value = 0, answer;
     watch(k);
-    answer = fw_resize(AREAS(k), caller, d, s, length, &value);
+    answer = fw_resize(FWH_AREAS(*k), caller, d, s, length, &value);
     return seen(k, answer, value);
 }
 
@@ -160,7 +154,7 @@ reply look(kernel *k, uint64_t caller, uint64_t d, uint64_t o)
     uint8_t out[FW_LOOK_LEN];
     uint64_t value = 0, answer;
     watch(k);
-    answer = fw_look(AREAS(k), caller, d, o, out, sizeof out, &value);
+    answer = fw_look(FWH_AREAS(*k), caller, d, o, FWH_BYTES(out), &value);
     return seen(k, answer, value);
 }
 
@@ -168,7 +162,7 @@ reply write_block(kernel *k, uint64_t caller, uint64_t d, uint64_t s, uint64_t b
 {
     uint64_t value = 0, answer;
     watch(k);
-    answer = fw_write(AREAS(k), caller, d, s, block, 0, FW_BLOCK_LEN, bytes, FW_BLOCK_LEN, &value);
+    answer = fw_write(FWH_AREAS(*k), caller, d, s, block, 0, FW_BLOCK_LEN, bytes, FW_BLOCK_LEN, &value);
     return seen(k, answer, value);
 }
 
@@ -177,7 +171,7 @@ reply read_block(kernel *k, uint64_t caller, uint64_t d, uint64_t s, uint64_t bl
     uint64_t value = 0, place = 0, length = 0, answer;
     memset(bytes, 0, FW_BLOCK_LEN);
     watch(k);
-    answer = fw_read(AREAS(k), caller, d, s, block, 0, FW_BLOCK_LEN, &place, &length, &value);
+    answer = fw_read(FWH_AREAS(*k), caller, d, s, block, 0, FW_BLOCK_LEN, &place, &length, &value);
     if (answer == FW_GRANTED && length == FW_BLOCK_LEN && place <= FW_AREA_LEN - FW_BLOCK_LEN) {
         memcpy(bytes, k->area + place, FW_BLOCK_LEN);
     }

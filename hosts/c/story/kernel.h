@@ -8,8 +8,7 @@
 typedef struct {
     uint8_t book[FW_BOOK_MAX];
     uint8_t area[FW_AREA_LEN];
-    uint64_t book_len;
-    uint64_t number;      /* of the next call, as page 01 counts */
+    uint64_t number;      /* of the next call: every call takes one, but for answers 1 and 2 */
     uint64_t calls;
     uint64_t refusals;
     uint64_t misnumbered; /* ids and categories that were not their call's own number */

@@ -343,7 +343,7 @@ static void show_changed_digest(const entry *kept)
     }
 }
 
-/* What the engine of the mission did: it looked at a list from which the last entry was missing. */
+/* What the engine with the fault did: it looked at a list from which the last entry was missing. */
 static void tell_old_fault(const result *kept, const result *fresh)
 {
     const list *l = &kept->depends;

@@ -1,6 +1,7 @@
 /*
- * Every call through the header, in one history worked out on paper from page 01: each argument is where the header
- * says, since another place would give another answer. Starts at 10; the comment before a call is its number.
+ * Every call through the header, in one history worked out on paper from page 01, the user's own page of rules, which
+ * docs/RULES.md restates and which is not in this repository: each argument is where the header says, since another
+ * place would give another answer. Starts at 10; the comment before a call is its number.
  */
 #include "flytewood_help.h"
 

@@ -59,7 +59,7 @@ static uint64_t blocks_of(const uint8_t *book, uint64_t segment)
     return 0;
 }
 
-/* The mission's fault: a grant is only a number, and the blocks come from one store that a neighbour may use up. */
+/* The story's fault: a grant is only a number, and the blocks come from one store that a neighbour may use up. */
 uint64_t STAND_IN(fw_resize)(uint8_t *book, uint64_t book_len, uint8_t *area, uint64_t area_len, uint64_t caller,
                              uint64_t d, uint64_t s, uint64_t length, uint64_t *value)
 {

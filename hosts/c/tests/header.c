@@ -1,4 +1,4 @@
-/* The header by itself, twice, as C99 and as C++: page 01's numbers behind its names, and a start. */
+/* The header by itself, twice, as C99 and as C++: the numbers of docs/RULES.md behind its names, and a start. */
 #include "flytewood.h"
 #include "flytewood.h"
 

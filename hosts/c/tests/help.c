@@ -1,9 +1,41 @@
-/* The helpers: labels from pairs, and names. */
+/* The helpers: slices lent in a word, labels from pairs, and names. */
 #include "flytewood_help.h"
 
 #include <string.h>
 
 #include "check.h"
+
+static int lends(const uint8_t *lent, uint64_t lent_len, const void *bytes, size_t length)
+{
+    return (const void *)lent == bytes && lent_len == length;
+}
+
+static int lends_areas(uint8_t *book, uint64_t book_len, uint8_t *area, uint64_t area_len, const fwh_areas *areas)
+{
+    return book_len <= sizeof areas->book && lends(book, book_len, areas->book, (size_t)fw_book_len()) &&
+           lends(area, area_len, areas->area, FW_AREA_LEN);
+}
+
+/* A struct of the host's own may hold the areas among other things. */
+static void check_slices(void)
+{
+    static fwh_areas areas, *pointer = &areas;
+    static struct {
+        int before;
+        uint8_t area[FW_AREA_LEN];
+        uint8_t book[FW_BOOK_MAX];
+    } host;
+    fwh_label label = fwh_level(FW_LEVEL_1), *to_label = &label;
+    uint8_t about[FW_DESCRIPTION_LEN] = "a room", look[FW_LOOK_LEN];
+    uint64_t room = 999;
+    CHECK(lends_areas(FWH_AREAS(areas), &areas) && lends_areas(FWH_AREAS(*pointer), &areas));
+    CHECK(lends(FWH_LABEL(label), &label, FW_LABEL_LEN) && lends(FWH_LABEL(*to_label), &label, FW_LABEL_LEN));
+    CHECK(lends(FWH_BYTES(about), about, 32) && lends(FWH_BYTES(look), look, 104));
+    CHECK(fw_start(FWH_AREAS(host), 10) == FW_GRANTED);
+    CHECK(fw_create_container(FWH_AREAS(host), 11, 10, FWH_LABEL(label), FWH_BYTES(about), 0, 20, &room) == FW_GRANTED);
+    CHECK(fw_look(FWH_AREAS(host), 11, 10, room, FWH_BYTES(look), &room) == FW_GRANTED);
+    CHECK(memcmp(look, about, sizeof about) == 0 && look[FW_LOOK_KIND] == FW_CONTAINER);
+}
 
 static int text_is(fwh_label label, const char *expected)
 {
@@ -13,7 +45,7 @@ static int text_is(fwh_label label, const char *expected)
 
 static void check_words(void)
 {
-    CHECK(fwh_word(5, FW_LEVEL_3) == 44); /* P10 of page 01: category 5 at level 3 */
+    CHECK(fwh_word(5, FW_LEVEL_3) == 44); /* category 5 at level 3: 5 * 8 + 4 */
     CHECK(fwh_pair_of(44).category == 5 && fwh_pair_of(44).code == FW_LEVEL_3);
     CHECK(fwh_pair_of(fwh_word(FW_LAST_NUMBER, FW_STAR)).category == FW_LAST_NUMBER);
 }
@@ -27,7 +59,7 @@ static void check_level(void)
     CHECK(fwh_says(&label, 1) == FW_LEVEL_1 && fwh_says(&label, FW_LAST_NUMBER) == FW_LEVEL_1);
 }
 
-/* The bytes of {102:3, 1}, from page 01's words: word 102 * 8 + 4 = 820 = 3 * 256 + 52. */
+/* The bytes of {102:3, 1}: the word is 102 * 8 + 4 = 820 = 3 * 256 + 52. */
 static void check_bytes(void)
 {
     fwh_pair pair = {102, FW_LEVEL_3};
@@ -118,6 +150,7 @@ static void check_names(void)
 
 int main(void)
 {
+    check_slices();
     check_words();
     check_level();
     check_bytes();
