@@ -111,12 +111,7 @@ fn judge(
     if !good(next_of(b), lr, cr, lv, n) {
         return Judged::No(4);
     }
-    let Entry::In {
-        container,
-        object,
-        link,
-    } = open_entry(b, t, d, g)
-    else {
+    let Entry::In { object, link, .. } = open_entry(b, t, d, g) else {
         return Judged::No(5);
     };
     if kind_of(b, object) != GATE {

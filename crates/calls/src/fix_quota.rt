@@ -40,7 +40,7 @@ fn judge(b: &[u8], area: &[u8], caller: u64, d: u64, o: u64) -> Judged
     let Entry::In {
         container,
         object,
-        link,
+        ..
     } = open_entry(b, t, d, o)
     else {
         return Judged::No(5);

@@ -44,12 +44,7 @@ fn judge(b: &[u8], area: &[u8], caller: u64, d1: u64, o: u64, d: u64) -> Judged
         Begun::Nobody => return Judged::No(3),
         Begun::Stopped(k) => return Judged::Stop(k),
     };
-    let Entry::In {
-        container,
-        object,
-        link,
-    } = open_entry(b, t, d1, o)
-    else {
+    let Entry::In { object, .. } = open_entry(b, t, d1, o) else {
         return Judged::No(5);
     };
     let Found::At(into) = open_container(b, t, d) else {

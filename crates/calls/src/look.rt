@@ -63,12 +63,7 @@ fn judge(b: &[u8], area: &[u8], caller: u64, d: u64, o: u64, n: usize) -> Judged
     if n != LOOK_SIZE {
         return Judged::No(4);
     }
-    let Entry::In {
-        container,
-        object,
-        link,
-    } = open_look(b, t, d, o)
-    else {
+    let Entry::In { object, link, .. } = open_look(b, t, d, o) else {
         return Judged::No(5);
     };
     Judged::Go(t, object, link)

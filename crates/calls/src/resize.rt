@@ -30,12 +30,7 @@ fn judge(b: &[u8], area: &[u8], caller: u64, d: u64, s: u64, length: u64) -> Jud
     if MAX_LENGTH < length {
         return Judged::No(4);
     }
-    let Entry::In {
-        container,
-        object,
-        link,
-    } = open_entry(b, t, d, s)
-    else {
+    let Entry::In { object, .. } = open_entry(b, t, d, s) else {
         return Judged::No(5);
     };
     if kind_of(b, object) != SEGMENT {

@@ -37,12 +37,7 @@ fn judge(
     if bytes.len() as u64 != count {
         return Judged::No(4);
     }
-    let Entry::In {
-        container,
-        object,
-        link,
-    } = open_entry(b, t, d, s)
-    else {
+    let Entry::In { object, .. } = open_entry(b, t, d, s) else {
         return Judged::No(5);
     };
     find_part(b, t, object, k, from, count, true)

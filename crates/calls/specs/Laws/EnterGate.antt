@@ -11,8 +11,8 @@ use Rattle.labels.specs.declared.Rule.the-variants.{FloorFlows, FlowsJoin}
 use Rattle.labels.specs.Core.{compareB, flows}
 use Rattle.labels.specs.Core as label
 use Rattle.labels.specs.Core.Formed.{and-l, and-r}
-use Rattle.rules.specs.Kernel.{gateCode, Obj, refuse, grant, must, judge, entry, isGate, allHold, flow, floorFlow, flowJoin, enterGate, alter, relabel, goodLabel, goodArguments, textSize}
-use Rattle.tables.specs.Layout.{view}
+use Rattle.rules.specs.Kernel.{gateCode, World, Obj, Condition, refuse, grant, must, judge, entry, isGate, allHold, flow, floorFlow, flowJoin, enterGate, alter, relabel, goodLabel, goodArguments, textSize}
+use Rattle.tables.specs.Layout.{View, view}
 use Rattle.book.specs.declared.find.Entry.the-variants as place
 use Rattle.book.specs.Book.{nextOf, codeOf, labelOf, clearanceOf, worldOf}
 use Rattle.book.specs.Laws.Tie.{object-clearance, object-gate, object-entry, object-closure}
@@ -119,6 +119,15 @@ module _ (mine cleared gate guard taken limit shown : Label) where
 
 -- ---- the verdict
 
+-- what is asked of thread t and gate g, and the same of their rows
+abbrev asks : World → Obj → ℕ → List ℕ → List ℕ → List ℕ → List Condition
+asks w t g lr cr lv =
+    gateConditions (t .label) (t .clearance) ((w .obj g) .label) ((w .obj g) .clearance) (label.labelOf lr) (label.labelOf cr) (label.labelOf lv)
+
+abbrev asksAt : View → ℕ → ℕ → List ℕ → List ℕ → List ℕ → List Condition
+asksAt v t r lr cr lv =
+    gateConditions (labelOf v t) (clearanceOf v t) (labelOf v r) (clearanceOf v r) (label.labelOf lr) (label.labelOf cr) (label.labelOf lv)
+
 module _ (b area : List ℕ) (c t d g : ℕ) (lr cr lv : List ℕ) (n : ℕ) (by : Caller b area c t) where
   -- malformed arguments: 4
   pub gate-four : goodGate (nextOf (view b)) lr cr lv n ≡ false → verdictOn b area c (enterGate d g lr cr lv n) ≡ refuse 4
@@ -129,7 +138,7 @@ module _ (b area : List ℕ) (c t d g : ℕ) (lr cr lv : List ℕ) (n : ℕ) (by
     judged : verdictOn b area c (enterGate d g lr cr lv n)
         ≡ must (entry (worldOf (view b) area) (worldOf (view b) area .obj c) d g) 5
         (must (isGate ((worldOf (view b) area .obj g) .kind)) 6
-        (must (allHold (gateConditions ((worldOf (view b) area .obj c) .label) ((worldOf (view b) area .obj c) .clearance) ((worldOf (view b) area .obj g) .label) ((worldOf (view b) area .obj g) .clearance) (label.labelOf lr) (label.labelOf cr) (label.labelOf lv))) 7
+        (must (allHold (asks (worldOf (view b) area) (worldOf (view b) area .obj c) g lr cr lv)) 7
         (grant ((worldOf (view b) area .obj g) .entry) ((worldOf (view b) area .obj g) .closure) (alter c (relabel (label.labelOf lr) (label.labelOf cr))))))
     unfolding judge goodArguments goodGate
     judged = caller-judged b area c t by (enterGate d g lr cr lv n) good
@@ -150,22 +159,22 @@ module _ (b area : List ℕ) (c t d g : ℕ) (lr cr lv : List ℕ) (n : ℕ) (by
         its-clearance : (worldOf (view b) area .obj g) .clearance ≡ clearanceOf (view b) r
         its-clearance = ap (λ (x : Obj). x .clearance) (object-is b area c t d g by k r l e) ∙ object-clearance (view b) area r (λ z. omega (arith, code)) (omega (arith, code))
 
-        asked : allHold (gateConditions ((worldOf (view b) area .obj c) .label) ((worldOf (view b) area .obj c) .clearance) ((worldOf (view b) area .obj g) .label) ((worldOf (view b) area .obj g) .clearance) (label.labelOf lr) (label.labelOf cr) (label.labelOf lv))
-            ≡ allHold (gateConditions (labelOf (view b) t) (clearanceOf (view b) t) (labelOf (view b) r) (clearanceOf (view b) r) (label.labelOf lr) (label.labelOf cr) (label.labelOf lv))
+        asked : allHold (asks (worldOf (view b) area) (worldOf (view b) area .obj c) g lr cr lv)
+            ≡ allHold (asksAt (view b) t r lr cr lv)
         asked = λ i. allHold (gateConditions (caller-label b area c t by i) (caller-clearance b area c t by i) (its-label b area c t d g by k r l e i) (its-clearance i) (label.labelOf lr) (label.labelOf cr) (label.labelOf lv))
 
         from-seven : verdictOn b area c (enterGate d g lr cr lv n)
-            ≡ must (allHold (gateConditions ((worldOf (view b) area .obj c) .label) ((worldOf (view b) area .obj c) .clearance) ((worldOf (view b) area .obj g) .label) ((worldOf (view b) area .obj g) .clearance) (label.labelOf lr) (label.labelOf cr) (label.labelOf lv))) 7
+            ≡ must (allHold (asks (worldOf (view b) area) (worldOf (view b) area .obj c) g lr cr lv)) 7
             (grant ((worldOf (view b) area .obj g) .entry) ((worldOf (view b) area .obj g) .closure) (alter c (relabel (label.labelOf lr) (label.labelOf cr))))
         from-seven = judged ∙ (must-passed _ 5 _ (is-entry b area c t d g by k r l e) ∙ must-passed _ 6 _ (is-gate ∙ eq-eqb (codeOf (view b) r) gateCode code))
 
         -- a condition fails: 7
-        pub gate-seven : allHold (gateConditions (labelOf (view b) t) (clearanceOf (view b) t) (labelOf (view b) r) (clearanceOf (view b) r) (label.labelOf lr) (label.labelOf cr) (label.labelOf lv)) ≡ false
+        pub gate-seven : allHold (asksAt (view b) t r lr cr lv) ≡ false
             → verdictOn b area c (enterGate d g lr cr lv n) ≡ refuse 7
         gate-seven q = from-seven ∙ must-failed _ 7 _ (asked ∙ q)
 
         -- granted
-        pub to-enter : allHold (gateConditions (labelOf (view b) t) (clearanceOf (view b) t) (labelOf (view b) r) (clearanceOf (view b) r) (label.labelOf lr) (label.labelOf cr) (label.labelOf lv)) ≡ true
+        pub to-enter : allHold (asksAt (view b) t r lr cr lv) ≡ true
             → ToEnter b area c d g lr cr lv n t r l
         to-enter q =
             record {

@@ -1,11 +1,11 @@
 -- Call 10: the verdict at each way out of its judging, and what it does.
 use Prim.Native.Nat.{ℕ, _≤_}
-use mathlib.Core.Bool.{true, false}
+use mathlib.Core.Bool.{Bool, true, false}
 use mathlib.Core.Path.{_≡_, refl, sym, ap, ap₂, _∙_}
 use mathlib.Core.List.{List, [], _∷_, _++_}
 use lib.ListN.{length}
 use Rattle.labels.specs.declared.Label.{Label}
-use Rattle.rules.specs.Kernel.{segmentCode, refuse, grant, must, judge, entry, isSegment, allHold, writing, flow, fixQuota, alter, fix, goodArguments, lastNumber}
+use Rattle.rules.specs.Kernel.{segmentCode, World, Obj, refuse, grant, must, judge, entry, isSegment, allHold, writing, flow, fixQuota, alter, fix, goodArguments, lastNumber}
 use Rattle.tables.specs.Layout.{view}
 use Rattle.book.specs.Book.{nextOf, codeOf, labelOf, worldOf}
 use Rattle.book.specs.Enact.{movedOn, fixedAt, alteredView, alteredArea}
@@ -20,11 +20,14 @@ use Rattle.calls.specs.Laws.Begun.{caller-judged, caller-label}
 use Rattle.calls.specs.Laws.Entry.{no-entry, is-entry, object-below, object-found, segment-here, no-segment, container-label, its-label}
 use Rattle.calls.specs.Laws.Prelude.{must-passed, must-failed, done-granted}
 
+abbrev labelsHold : World → Obj → ℕ → ℕ → Bool
+labelsHold w t d o = allHold (writing (t .label) ((w .obj d) .label) ++ (flow (t .label) ((w .obj o) .label) ∷ []))
+
 module _ (b area : List ℕ) (c t d o : ℕ) (by : Caller b area c t) where
   judged : verdictOn b area c (fixQuota d o)
       ≡ must (entry (worldOf (view b) area) (worldOf (view b) area .obj c) d o) 5
       (must (isSegment ((worldOf (view b) area .obj o) .kind)) 6
-      (must (allHold (writing ((worldOf (view b) area .obj c) .label) ((worldOf (view b) area .obj d) .label) ++ (flow ((worldOf (view b) area .obj c) .label) ((worldOf (view b) area .obj o) .label) ∷ []))) 7
+      (must (labelsHold (worldOf (view b) area) (worldOf (view b) area .obj c) d o) 7
       (grant 0 [] (alter o fix))))
   unfolding judge goodArguments
   judged = caller-judged b area c t by (fixQuota d o) refl
@@ -37,7 +40,7 @@ module _ (b area : List ℕ) (c t d o : ℕ) (by : Caller b area c t) where
   module _ (k r l : ℕ) (e : openEntry (view b) t d o ≡ place.In k r l) (n : ℕ) (en : n ≡ codeOf (view b) r) where
     from-six : verdictOn b area c (fixQuota d o)
         ≡ must (isSegment ((worldOf (view b) area .obj o) .kind)) 6
-        (must (allHold (writing ((worldOf (view b) area .obj c) .label) ((worldOf (view b) area .obj d) .label) ++ (flow ((worldOf (view b) area .obj c) .label) ((worldOf (view b) area .obj o) .label) ∷ []))) 7
+        (must (labelsHold (worldOf (view b) area) (worldOf (view b) area .obj c) d o) 7
         (grant 0 [] (alter o fix)))
     from-six = judged ∙ must-passed _ 5 _ (is-entry b area c t d o by k r l e)
 
@@ -47,14 +50,14 @@ module _ (b area : List ℕ) (c t d o : ℕ) (by : Caller b area c t) where
 
     -- x, y and z are the labels of the caller, the container and the object
     module _ (g : n ≡ segmentCode) (x y z : Label) (ex : x ≡ labelOf (view b) t) (ey : y ≡ labelOf (view b) k) (ez : z ≡ labelOf (view b) r) where
-      labels-are : allHold (writing ((worldOf (view b) area .obj c) .label) ((worldOf (view b) area .obj d) .label) ++ (flow ((worldOf (view b) area .obj c) .label) ((worldOf (view b) area .obj o) .label) ∷ []))
+      labels-are : labelsHold (worldOf (view b) area) (worldOf (view b) area .obj c) d o
           ≡ allHold (writing x y ++ (flow x z ∷ []))
       labels-are =
           ap (λ m. allHold (writing m ((worldOf (view b) area .obj d) .label) ++ (flow m ((worldOf (view b) area .obj o) .label) ∷ []))) (caller-label b area c t by ∙ sym ex)
           ∙ ap₂ (λ m h. allHold (writing x m ++ (flow x h ∷ []))) (container-label b area c t d o by k r l e ∙ sym ey) (its-label b area c t d o by k r l e ∙ sym ez)
 
       from-seven : verdictOn b area c (fixQuota d o)
-          ≡ must (allHold (writing ((worldOf (view b) area .obj c) .label) ((worldOf (view b) area .obj d) .label) ++ (flow ((worldOf (view b) area .obj c) .label) ((worldOf (view b) area .obj o) .label) ∷ []))) 7
+          ≡ must (labelsHold (worldOf (view b) area) (worldOf (view b) area .obj c) d o) 7
           (grant 0 [] (alter o fix))
       from-seven = from-six ∙ must-passed _ 6 _ (segment-here b area c t d o by k r l e n en g)
 

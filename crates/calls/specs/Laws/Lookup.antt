@@ -1,5 +1,5 @@
 -- Lookups: as the code makes them, what is found by them, and what the rules' tests of answer 5 are in the book.
-use Prim.Native.Nat.{ℕ, _<_}
+use Prim.Native.Nat.{ℕ}
 use native.Mathlib.Omega.{arith}
 use mathlib.Core.Bool.{Bool, true, false, cond}
 use mathlib.Core.Path.{_≡_, sym, ap, subst, _∙_}
@@ -8,10 +8,8 @@ use lib.Dec.{leb}
 use Rattle.labels.specs.Core.{mayRead}
 use Rattle.rules.specs.Kernel.{containerCode, Obj, opens, fits, spareOf}
 use Rattle.rules.specs.Laws.Bools.{bool-cases}
-use Rattle.tables.specs.Layout.{View, view, rowCount}
-use Rattle.book.specs.declared.Found.{Found}
+use Rattle.tables.specs.Layout.{View, view}
 use Rattle.book.specs.declared.Found.the-variants.{At, Nothing}
-use Rattle.book.specs.declared.find.Entry.{Entry}
 use Rattle.book.specs.declared.find.Entry.the-variants as place
 use Rattle.book.specs.Book.{idOf, labelOf, rowOf, worldOf}
 use Rattle.book.specs.Find.{containerRow, entryPlace}

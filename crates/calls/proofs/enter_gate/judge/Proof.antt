@@ -48,8 +48,8 @@ open-entry-requires c κs =
     let by = subst (BegunAs _ _ _) (c .before .before .before .before .t .given .1) (c .before .before .before .before .before .before .begin .ensures) in
     (book-long _ _ (by .ready .areas), caller-low _ _ _ _ by)
 
-enum-known-container : tie.Need-enum-known-container
-enum-known-container c = search needs
+enum-known-object : tie.Need-enum-known-object
+enum-known-object c = search needs
 
 enum-told-2 : tie.Need-enum-told-2
 enum-told-2 c = search needs
@@ -67,7 +67,7 @@ kind-of-requires : tie.Need-kind-of-requires
 kind-of-requires c κs =
     let by = subst (BegunAs _ _ _) (c .before .before .before .before .before .before .before .before .t .given .1)
     (c .before .before .before .before .before .before .before .before .before .before .begin .ensures) in
-    let e = sym (c .before .before .before .open-entry .ensures) ∙ c .before .container .given .1 in
+    let e = sym (c .before .before .before .open-entry .ensures) ∙ c .before .object .given .1 in
     (book-long _ _ (by .ready .areas), object-below _ _ _ _ _ _ by _ _ _ e)
 
 returns-5 : tie.Need-returns-5
@@ -77,7 +77,7 @@ returns-5 c =
     let a = gate-against _ _ _ _ _ (up8 .next-of .result) (c .before .before .before .before .before .before .before .good2 .result) (up8 .next-of .ensures)
     (c .before .before .before .before .before .before .before .good2 .ensures) in
     let good = a ∙ not-false (c .before .before .before .before .before .before .before .good2 .result) (c .before .before .before .before .before .before .if1 .left) in
-    let e = sym (c .before .before .before .before .before .open-entry .ensures) ∙ c .before .before .before .container .given .1 in
+    let e = sym (c .before .before .before .before .before .open-entry .ensures) ∙ c .before .before .before .object .given .1 in
     (gate-six _ _ _ _ _ _ _ _ _ _ by good _ _ _ e (λ z. c .if2 .taken (c .before .kind-of .ensures ∙ z)), omega arith, by .ready)
 
 conditions-requires : tie.Need-conditions-requires
@@ -87,7 +87,7 @@ conditions-requires c κs =
     let a = gate-against _ _ _ _ _ (up8 .next-of .result) (c .before .before .before .before .before .before .before .good2 .result) (up8 .next-of .ensures)
     (c .before .before .before .before .before .before .before .good2 .ensures) in
     let good = a ∙ not-false (c .before .before .before .before .before .before .before .good2 .result) (c .before .before .before .before .before .before .if1 .left) in
-    let e = sym (c .before .before .before .before .before .open-entry .ensures) ∙ c .before .before .before .container .given .1 in (
+    let e = sym (c .before .before .before .before .before .open-entry .ensures) ∙ c .before .before .before .object .given .1 in (
       book-long _ _ (by .ready .areas),
       caller-low _ _ _ _ by,
       object-below _ _ _ _ _ _ by _ _ _ e,
@@ -102,7 +102,7 @@ returns-6 c =
     let by = subst (BegunAs _ _ _) (up8 .before .before .before .before .t .given .1) (up8 .before .before .before .before .before .before .begin .ensures) in
     let a = gate-against _ _ _ _ _ (up8 .before .before .next-of .result) (up8 .before .good2 .result) (up8 .before .before .next-of .ensures) (up8 .before .good2 .ensures) in
     let good = a ∙ not-false (up8 .before .good2 .result) (up8 .if1 .left) in
-    let e = sym (c .before .before .before .before .before .before .before .open-entry .ensures) ∙ c .before .before .before .before .before .container .given .1 in
+    let e = sym (c .before .before .before .before .before .before .before .open-entry .ensures) ∙ c .before .before .before .before .before .object .given .1 in
     let q = sym (c .before .conditions .ensures) ∙ not-true (c .before .conditions .result) (c .if3 .taken) in
     (gate-seven _ _ _ _ _ _ _ _ _ _ by good _ _ _ e (sym (c .before .before .before .kind-of .ensures) ∙ c .before .before .if2 .left) q, omega arith, by .ready)
 
@@ -112,7 +112,7 @@ returns-7 c =
     let by = subst (BegunAs _ _ _) (up8 .before .before .before .before .t .given .1) (up8 .before .before .before .before .before .before .begin .ensures) in
     let a = gate-against _ _ _ _ _ (up8 .before .before .next-of .result) (up8 .before .good2 .result) (up8 .before .before .next-of .ensures) (up8 .before .good2 .ensures) in
     let good = a ∙ not-false (up8 .before .good2 .result) (up8 .if1 .left) in
-    let e = sym (c .before .before .before .before .before .before .before .open-entry .ensures) ∙ c .before .before .before .before .before .container .given .1 in
+    let e = sym (c .before .before .before .before .before .before .before .open-entry .ensures) ∙ c .before .before .before .before .before .object .given .1 in
     let q = sym (c .before .conditions .ensures) ∙ not-false (c .before .conditions .result) (c .if3 .left) in
     (by .ready, to-enter _ _ _ _ _ _ _ _ _ _ by good _ _ _ e (sym (c .before .before .before .kind-of .ensures) ∙ c .before .before .if2 .left) q)
 
@@ -130,7 +130,7 @@ judge-spec =
     good-requires
     returns-3
     open-entry-requires
-    enum-known-container
+    enum-known-object
     enum-told-2
     returns-4
     kind-of-requires

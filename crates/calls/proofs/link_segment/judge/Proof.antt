@@ -36,8 +36,8 @@ open-entry-requires c κs =
     let by = subst (BegunAs _ _ _) (c .before .t .given .1) (c .before .before .before .begin .ensures) in
     (book-long _ _ (by .ready .areas), caller-low _ _ _ _ by)
 
-enum-known-container : tie.Need-enum-known-container
-enum-known-container c = search needs
+enum-known-object : tie.Need-enum-known-object
+enum-known-object c = search needs
 
 enum-told-2 : tie.Need-enum-told-2
 enum-told-2 c = search needs
@@ -68,14 +68,14 @@ kind-of-requires : tie.Need-kind-of-requires
 kind-of-requires c κs =
     let by = subst (BegunAs _ _ _) (c .before .before .before .before .before .before .before .before .before .t .given .1)
     (c .before .before .before .before .before .before .before .before .before .before .before .begin .ensures) in
-    let e = sym (c .before .before .before .before .before .before .before .open-entry .ensures) ∙ c .before .before .before .before .before .container .given .1 in
+    let e = sym (c .before .before .before .before .before .before .before .open-entry .ensures) ∙ c .before .before .before .before .before .object .given .1 in
     (book-long _ _ (by .ready .areas), object-below _ _ _ _ _ _ by _ _ _ e)
 
 returns-5 : tie.Need-returns-5
 returns-5 c =
     let up8 = c .before .before .before .before .before .before .before .before in
     let by = subst (BegunAs _ _ _) (up8 .before .before .before .t .given .1) (up8 .before .before .before .before .before .begin .ensures) in
-    let e = sym (up8 .before .open-entry .ensures) ∙ c .before .before .before .before .before .before .before .container .given .1 in
+    let e = sym (up8 .before .open-entry .ensures) ∙ c .before .before .before .before .before .before .before .object .given .1 in
     let g = sym (c .before .before .before .before .before .open-container .ensures) ∙ c .before .before .before .into .given .1 in
     (kind-six _ _ _ _ _ _ _ by _ _ _ e _ g _ (c .before .kind-of .ensures) (c .if1 .taken), omega arith, by .ready)
 
@@ -103,7 +103,7 @@ label-of-requires-3 c κs =
     let up8 = c .before .before .before .before .before .before .before .before in
     let up16 = up8 .before .before .before .before .before .before .before .before in
     let by = subst (BegunAs _ _ _) (up8 .before .before .before .before .before .before .t .given .1) (up16 .begin .ensures) in
-    let e = sym (up8 .before .before .before .before .open-entry .ensures) ∙ up8 .before .before .container .given .1 in
+    let e = sym (up8 .before .before .before .before .open-entry .ensures) ∙ up8 .before .before .object .given .1 in
     (book-long _ _ (by .ready .areas), object-below _ _ _ _ _ _ by _ _ _ e)
 
 allowed-requires : tie.Need-allowed-requires
@@ -114,7 +114,7 @@ returns-6 c =
     let up8 = c .before .before .before .before .before .before .before .before in
     let up16 = up8 .before .before .before .before .before .before .before .before in
     let by = subst (BegunAs _ _ _) (up16 .before .t .given .1) (up16 .before .before .before .begin .ensures) in
-    let e = sym (up8 .before .before .before .before .before .before .before .open-entry .ensures) ∙ up8 .before .before .before .before .before .container .given .1 in
+    let e = sym (up8 .before .before .before .before .before .before .before .open-entry .ensures) ∙ up8 .before .before .before .before .before .object .given .1 in
     let g = sym (up8 .before .before .before .open-container .ensures) ∙ up8 .before .into .given .1 in
     let w = sym (c .before .allowed .ensures) ∙ not-true (c .before .allowed .result) (c .if2 .taken) in (
       label-seven _ _ _ _ _ _ _ by _ _ _ e _ g _ (c .before .before .before .before .before .before .before .kind-of .ensures)
@@ -130,7 +130,7 @@ fixed-of-requires c κs =
     let up8 = c .before .before .before .before .before .before .before .before in
     let up16 = up8 .before .before .before .before .before .before .before .before in
     let by = subst (BegunAs _ _ _) (up16 .before .t .given .1) (up16 .before .before .before .begin .ensures) in
-    let e = sym (up8 .before .before .before .before .before .before .before .open-entry .ensures) ∙ up8 .before .before .before .before .before .container .given .1 in
+    let e = sym (up8 .before .before .before .before .before .before .before .open-entry .ensures) ∙ up8 .before .before .before .before .before .object .given .1 in
     (book-long _ _ (by .ready .areas), object-below _ _ _ _ _ _ by _ _ _ e)
 
 returns-7 : tie.Need-returns-7
@@ -138,7 +138,7 @@ returns-7 c =
     let up8 = c .before .before .before .before .before .before .before .before in
     let up16 = up8 .before .before .before .before .before .before .before .before in
     let by = subst (BegunAs _ _ _) (up16 .before .before .before .t .given .1) (up16 .before .before .before .before .before .begin .ensures) in
-    let e = sym (up16 .before .open-entry .ensures) ∙ up8 .before .before .before .before .before .before .before .container .given .1 in
+    let e = sym (up16 .before .open-entry .ensures) ∙ up8 .before .before .before .before .before .before .before .object .given .1 in
     let g = sym (up8 .before .before .before .before .before .open-container .ensures) ∙ up8 .before .before .before .into .given .1 in
     let w = sym (c .before .before .before .allowed .ensures) ∙ not-false (c .before .before .before .allowed .result) (c .before .before .if2 .left) in (
       loose-nine _ _ _ _ _ _ _ by _ _ _ e _ g _ (up8 .before .kind-of .ensures) (up8 .if1 .left)
@@ -169,7 +169,7 @@ returns-8 c =
     let up16 = up8 .before .before .before .before .before .before .before .before in
     let up24 = up16 .before .before .before .before .before .before .before .before in
     let by = subst (BegunAs _ _ _) (up16 .before .before .before .before .before .before .t .given .1) (up24 .begin .ensures) in
-    let e = sym (up16 .before .before .before .before .open-entry .ensures) ∙ up16 .before .before .container .given .1 in
+    let e = sym (up16 .before .before .before .before .open-entry .ensures) ∙ up16 .before .before .object .given .1 in
     let g = sym (up16 .open-container .ensures) ∙ up8 .before .before .before .before .before .before .into .given .1 in
     let w = sym (c .before .before .before .before .before .before .allowed .ensures) ∙ not-false (c .before .before .before .before .before .before .allowed .result)
     (c .before .before .before .before .before .if2 .left) in
@@ -197,7 +197,7 @@ quota-of-requires c κs =
     let up16 = up8 .before .before .before .before .before .before .before .before in
     let up24 = up16 .before .before .before .before .before .before .before .before in
     let by = subst (BegunAs _ _ _) (up16 .before .before .before .before .before .before .before .t .given .1) (up24 .before .begin .ensures) in
-    let e = sym (up16 .before .before .before .before .before .open-entry .ensures) ∙ up16 .before .before .before .container .given .1 in
+    let e = sym (up16 .before .before .before .before .before .open-entry .ensures) ∙ up16 .before .before .before .object .given .1 in
     (book-long _ _ (by .ready .areas), object-below _ _ _ _ _ _ by _ _ _ e)
 
 returns-9 : tie.Need-returns-9
@@ -206,7 +206,7 @@ returns-9 c =
     let up16 = up8 .before .before .before .before .before .before .before .before in
     let up24 = up16 .before .before .before .before .before .before .before .before in
     let by = subst (BegunAs _ _ _) (up24 .before .t .given .1) (up24 .before .before .before .begin .ensures) in
-    let e = sym (up16 .before .before .before .before .before .before .before .open-entry .ensures) ∙ up16 .before .before .before .before .before .container .given .1 in
+    let e = sym (up16 .before .before .before .before .before .before .before .open-entry .ensures) ∙ up16 .before .before .before .before .before .object .given .1 in
     let g = sym (up16 .before .before .before .open-container .ensures) ∙ up16 .before .into .given .1 in
     let w = sym (up8 .before .allowed .ensures) ∙ not-false (up8 .before .allowed .result) (up8 .if2 .left) in
     let i = not-false (c .before .before .before .before .before .before .before .fixed-of .result) (c .before .before .before .before .before .before .if3 .left) in
@@ -227,7 +227,7 @@ returns-10 c =
     let up16 = up8 .before .before .before .before .before .before .before .before in
     let up24 = up16 .before .before .before .before .before .before .before .before in
     let by = subst (BegunAs _ _ _) (up24 .before .t .given .1) (up24 .before .before .before .begin .ensures) in
-    let e = sym (up16 .before .before .before .before .before .before .before .open-entry .ensures) ∙ up16 .before .before .before .before .before .container .given .1 in
+    let e = sym (up16 .before .before .before .before .before .before .before .open-entry .ensures) ∙ up16 .before .before .before .before .before .object .given .1 in
     let g = sym (up16 .before .before .before .open-container .ensures) ∙ up16 .before .into .given .1 in
     let w = sym (up8 .before .allowed .ensures) ∙ not-false (up8 .before .allowed .result) (up8 .if2 .left) in
     let i = not-false (c .before .before .before .before .before .before .before .fixed-of .result) (c .before .before .before .before .before .before .if3 .left) in
@@ -252,7 +252,7 @@ judge-spec =
     enum-known-k
     returns-2
     open-entry-requires
-    enum-known-container
+    enum-known-object
     enum-told-2
     returns-3
     open-container-requires

@@ -38,8 +38,8 @@ open-look-requires c κs =
     let by = subst (BegunAs _ _ _) (c .before .before .t .given .1) (c .before .before .before .before .begin .ensures) in
     (book-long _ _ (by .ready .areas), caller-low _ _ _ _ by)
 
-enum-known-container : tie.Need-enum-known-container
-enum-known-container c = search needs
+enum-known-object : tie.Need-enum-known-object
+enum-known-object c = search needs
 
 enum-told-2 : tie.Need-enum-told-2
 enum-told-2 c = search needs
@@ -55,7 +55,7 @@ returns-5 c =
     (c .before .before .before .before .before .before .before .before .begin .ensures) in (
       by .ready,
       to-look _ _ _ _ _ _ _ by (c .before .before .before .before .if1 .left) _ _ _ (sym (c .before .before .before .open-look .ensures)
-          ∙ c .before .container .given .1),
+          ∙ c .before .object .given .1),
     )
 
 pub judge-spec : {M : Type 1} → statement M
@@ -70,7 +70,7 @@ judge-spec =
     returns-2
     returns-3
     open-look-requires
-    enum-known-container
+    enum-known-object
     enum-told-2
     returns-4
     returns-5)

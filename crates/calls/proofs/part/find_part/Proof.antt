@@ -1,9 +1,10 @@
+use Prim.Native.Nat.{_+_, _*_}
 use native.Mathlib.Omega.{arith}
 use mathlib.Core.Path.{sym, ap, ap₂, _∙_}
 use lib.Dec.{leb}
 use borrow.Author.Tests.{not-true, not-false, eq-eqb, ne-eqb, le-leb, lt-leb}
 use Rattle.labels.specs.declared.Label.{Label}
-use Rattle.rules.specs.Kernel.{allHold}
+use Rattle.rules.specs.Kernel.{allHold, blockSize}
 use Rattle.calls.specs.declared.Judged.the-variants.{Go}
 use Rattle.calls.specs.Access.{asked}
 use Rattle.calls.specs.Laws.Tested.{test-failed, test-passed}
@@ -50,13 +51,15 @@ add-if3-2 c =
 
 returns-3 : tie.Need-returns-3
 returns-3 c =
+    let given = c .before .before .before .before .before .before .before .before .before .args in
+    let x = blockSize * given .k + given .from + given .count in
     let i = eq-eqb _ _ (sym (c .before .before .before .before .before .before .before .kind-of .ensures) ∙ c .before .before .before .before .before .before .if1 .left) in
     let writes = c .before .before .before .before .before .before .before .before .before .args .writes in
     let a = ap₂ (λ (x y : Label). allHold (asked writes x y)) (sym (c .before .before .before .before .before .label-of .ensures)) (sym
     (c .before .before .before .before .label-of2 .ensures)) ∙ sym (c .before .before .before .allowed .ensures) in
     test-passed _ 6 _ _ i
     (test-passed _ 7 _ _ (a ∙ not-false (c .before .before .before .allowed .result) (c .before .before .if2 .left))
-    (test-failed _ 11 _ (ap (leb _) (sym (c .before .len-of .ensures)) ∙ lt-leb _ _ (c .if3 .taken))))
+    (test-failed _ 11 _ (ap (leb x) (sym (c .before .len-of .ensures)) ∙ lt-leb x (c .before .len-of .result) (c .if3 .taken))))
 
 place-of-requires : tie.Need-place-of-requires
 place-of-requires c κs = (
@@ -68,6 +71,9 @@ place-of-requires c κs = (
 
 returns-4 : tie.Need-returns-4
 returns-4 c =
+    let given = c .before .before .before .before .before .before .before .before .before .before .args in
+    let x = blockSize * given .k + given .from + given .count in
+    let here = ap (λ p. Go p 0 0) (c .place-of .ensures) in
     let i = eq-eqb _ _ (sym (c .before .before .before .before .before .before .before .before .kind-of .ensures)
     ∙ c .before .before .before .before .before .before .before .if1 .left) in
     let writes = c .before .before .before .before .before .before .before .before .before .before .args .writes in
@@ -75,7 +81,7 @@ returns-4 c =
     (c .before .before .before .before .before .label-of2 .ensures)) ∙ sym (c .before .before .before .before .allowed .ensures) in
     test-passed _ 6 _ _ i
     (test-passed _ 7 _ _ (a ∙ not-false (c .before .before .before .before .allowed .result) (c .before .before .before .if2 .left))
-    (test-passed _ 11 _ _ (ap (leb _) (sym (c .before .before .len-of .ensures)) ∙ le-leb _ _ (c .before .if3 .left)) (ap (λ p. Go p 0 0) (c .place-of .ensures))))
+    (test-passed _ 11 _ _ (ap (leb x) (sym (c .before .before .len-of .ensures)) ∙ le-leb x (c .before .before .len-of .result) (c .before .if3 .left)) here))
 
 pub find-part-spec : {M : Type 1} → statement M
 find-part-spec =

@@ -41,8 +41,8 @@ open-entry-requires c κs =
     let by = subst (BegunAs _ _ _) (c .before .before .t .given .1) (c .before .before .before .before .begin .ensures) in
     (book-long _ _ (by .ready .areas), caller-low _ _ _ _ by)
 
-enum-known-container : tie.Need-enum-known-container
-enum-known-container c = search needs
+enum-known-object : tie.Need-enum-known-object
+enum-known-object c = search needs
 
 enum-told-2 : tie.Need-enum-told-2
 enum-told-2 c = search needs
@@ -56,14 +56,14 @@ kind-of-requires : tie.Need-kind-of-requires
 kind-of-requires c κs =
     let by = subst (BegunAs _ _ _) (c .before .before .before .before .before .before .t .given .1)
     (c .before .before .before .before .before .before .before .before .begin .ensures) in
-    let e = sym (c .before .before .before .open-entry .ensures) ∙ c .before .container .given .1 in
+    let e = sym (c .before .before .before .open-entry .ensures) ∙ c .before .object .given .1 in
     (book-long _ _ (by .ready .areas), object-below _ _ _ _ _ _ by _ _ _ e)
 
 returns-5 : tie.Need-returns-5
 returns-5 c =
     let by = subst (BegunAs _ _ _) (c .before .before .before .before .before .before .before .before .t .given .1)
     (c .before .before .before .before .before .before .before .before .before .before .begin .ensures) in
-    let e = sym (c .before .before .before .before .before .open-entry .ensures) ∙ c .before .before .before .container .given .1 in
+    let e = sym (c .before .before .before .before .before .open-entry .ensures) ∙ c .before .before .before .object .given .1 in
     (kind-six _ _ _ _ _ _ _ by (c .before .before .before .before .before .before .if1 .left) _ _ _ e _ (c .before .kind-of .ensures) (c .if2 .taken), omega arith, by .ready)
 
 label-of-requires : tie.Need-label-of-requires
@@ -76,7 +76,7 @@ label-of-requires-2 : tie.Need-label-of-requires-2
 label-of-requires-2 c κs =
     let by = subst (BegunAs _ _ _) (c .before .before .before .before .before .before .before .before .before .t .given .1)
     (c .before .before .before .before .before .before .before .before .before .before .before .begin .ensures) in
-    let e = sym (c .before .before .before .before .before .before .open-entry .ensures) ∙ c .before .before .before .before .container .given .1 in
+    let e = sym (c .before .before .before .before .before .before .open-entry .ensures) ∙ c .before .before .before .before .object .given .1 in
     (book-long _ _ (by .ready .areas), object-below _ _ _ _ _ _ by _ _ _ e)
 
 may-write-requires : tie.Need-may-write-requires
@@ -86,7 +86,7 @@ returns-6 : tie.Need-returns-6
 returns-6 c =
     let up8 = c .before .before .before .before .before .before .before .before in
     let by = subst (BegunAs _ _ _) (up8 .before .before .before .before .t .given .1) (up8 .before .before .before .before .before .before .begin .ensures) in
-    let e = sym (up8 .before .open-entry .ensures) ∙ c .before .before .before .before .before .before .before .container .given .1 in
+    let e = sym (up8 .before .open-entry .ensures) ∙ c .before .before .before .before .before .before .before .object .given .1 in
     let w = ap₂ mayWrite (sym (c .before .before .before .label-of .ensures)) (sym (c .before .before .label-of2 .ensures)) ∙ sym (c .before .may-write .ensures) in (
       write-seven _ _ _ _ _ _ _ by (up8 .before .before .if1 .left) _ _ _ e _ (c .before .before .before .before .before .kind-of .ensures)
           (c .before .before .before .before .if2 .left) (w ∙ not-true (c .before .may-write .result) (c .if3 .taken)),
@@ -98,7 +98,7 @@ quota-of-requires : tie.Need-quota-of-requires
 quota-of-requires c κs =
     let up8 = c .before .before .before .before .before .before .before .before in
     let by = subst (BegunAs _ _ _) (up8 .before .before .before .before .t .given .1) (up8 .before .before .before .before .before .before .begin .ensures) in
-    let e = sym (up8 .before .open-entry .ensures) ∙ c .before .before .before .before .before .before .before .container .given .1 in
+    let e = sym (up8 .before .open-entry .ensures) ∙ c .before .before .before .before .before .before .before .object .given .1 in
     (book-long _ _ (by .ready .areas), object-below _ _ _ _ _ _ by _ _ _ e)
 
 units-requires : tie.Need-units-requires
@@ -109,7 +109,7 @@ returns-7 c =
     let up8 = c .before .before .before .before .before .before .before .before in
     let up16 = up8 .before .before .before .before .before .before .before .before in
     let by = subst (BegunAs _ _ _) (up8 .before .before .before .before .before .before .before .t .given .1) (up16 .before .begin .ensures) in
-    let e = sym (up8 .before .before .before .before .open-entry .ensures) ∙ up8 .before .before .container .given .1 in
+    let e = sym (up8 .before .before .before .before .open-entry .ensures) ∙ up8 .before .before .object .given .1 in
     let w = ap₂ mayWrite (sym (c .before .before .before .before .before .before .label-of .ensures)) (sym (c .before .before .before .before .before .label-of2 .ensures)) ∙ sym
     (c .before .before .before .before .may-write .ensures) in (
       spare-thirteen _ _ _ _ _ _ _ by (up8 .before .before .before .before .before .if1 .left) _ _ _ e _ (up8 .kind-of .ensures)
@@ -125,7 +125,7 @@ returns-8 c =
     let up8 = c .before .before .before .before .before .before .before .before in
     let up16 = up8 .before .before .before .before .before .before .before .before in
     let by = subst (BegunAs _ _ _) (up8 .before .before .before .before .before .before .before .t .given .1) (up16 .before .begin .ensures) in
-    let e = sym (up8 .before .before .before .before .open-entry .ensures) ∙ up8 .before .before .container .given .1 in
+    let e = sym (up8 .before .before .before .before .open-entry .ensures) ∙ up8 .before .before .object .given .1 in
     let w = ap₂ mayWrite (sym (c .before .before .before .before .before .before .label-of .ensures)) (sym (c .before .before .before .before .before .label-of2 .ensures)) ∙ sym
     (c .before .before .before .before .may-write .ensures) in (
       by .ready,
@@ -147,7 +147,7 @@ judge-spec =
     returns-2
     returns-3
     open-entry-requires
-    enum-known-container
+    enum-known-object
     enum-told-2
     returns-4
     kind-of-requires

@@ -50,8 +50,8 @@ open-entry-requires c κs =
     let by = subst (BegunAs _ _ _) (c .before .before .before .before .t .given .1) (c .before .before .before .before .before .before .begin .ensures) in
     (book-long _ _ (by .ready .areas), caller-low _ _ _ _ by)
 
-enum-known-container : tie.Need-enum-known-container
-enum-known-container c = search needs
+enum-known-object : tie.Need-enum-known-object
+enum-known-object c = search needs
 
 enum-told-2 : tie.Need-enum-told-2
 enum-told-2 c = search needs
@@ -71,7 +71,7 @@ find-part-requires c κs =
     let k = up8 .before .before .before .before .before .before .args .k in
     let f = up8 .before .before .before .before .before .before .args .from in
     let n = up8 .before .before .before .before .before .before .args .count in
-    let e = sym (c .before .before .before .open-entry .ensures) ∙ c .before .container .given .1 in
+    let e = sym (c .before .before .before .open-entry .ensures) ∙ c .before .object .given .1 in
     let good = sym (c .before .before .before .before .before .before .good-part .ensures) ∙ not-false (c .before .before .before .before .before .before .good-part .result)
     (c .before .before .before .before .before .if1 .left) in
     (book-long _ _ (by .ready .areas), caller-low _ _ _ _ by, object-below _ _ _ _ _ _ by _ _ _ e, block-fits k f n good, part-fits k f n good)
@@ -80,7 +80,7 @@ returns-6 : tie.Need-returns-6
 returns-6 c =
     let by = subst (BegunAs _ _ _) (c .before .before .before .before .before .before .before .before .before .t .given .1)
     (c .before .before .before .before .before .before .before .before .before .before .before .begin .ensures) in
-    let e = sym (c .before .before .before .before .open-entry .ensures) ∙ c .before .before .container .given .1 in
+    let e = sym (c .before .before .before .before .open-entry .ensures) ∙ c .before .before .object .given .1 in
     let good = sym (c .before .before .before .before .before .before .before .good-part .ensures) ∙ not-false
     (c .before .before .before .before .before .before .before .good-part .result) (c .before .before .before .before .before .before .if1 .left) in
     write-judged _ _ _ _ _ _ _ _ _ _ by good (c .before .before .before .before .before .if2 .left) _ _ _ e (c .find-part .result) (c .find-part .ensures)
@@ -99,7 +99,7 @@ judge-spec =
     returns-3
     returns-4
     open-entry-requires
-    enum-known-container
+    enum-known-object
     enum-told-2
     returns-5
     find-part-requires
