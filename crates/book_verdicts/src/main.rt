@@ -1,6 +1,5 @@
 // Builds books as it is told, damages them, and prints whether each is sound. The commands are in hosts/README.md.
-ghost use Prim.Native.Nat.{_≤_, _<_};
-ghost use lib.ListN.{length};
+ghost use Prim.Native.Nat.{_<_};
 use labels::bytes::get_u64;
 use libc::STDIN_FILENO;
 use libc::STDOUT_FILENO;

@@ -1,12 +1,12 @@
 -- What a call says and leaves, of the two areas it is lent. Answer, value and output are what the rules say of the world that the areas spell; book and data
 -- area are the rules' change enacted on what came in. All of it is a function of the input, so there is one outcome.
 use Prim.Native.Nat.{ℕ, _≤_}
-use mathlib.Core.Bool.{Bool, true, false, cond}
+use mathlib.Core.Bool.{true, false, cond}
 use mathlib.Core.Path.{_≡_}
-use mathlib.Core.List.{List, []}
+use mathlib.Core.List.{List}
 use lib.ListN.{length}
 use lib.Dec.{leb}
-use Rattle.rules.specs.Kernel.{Verdict, refuse, grant, must, Call, call, Change, answerOf, valueOf, outputOf, lastNumber}
+use Rattle.rules.specs.Kernel.{Verdict, refuse, grant, must, Call, call, answerOf, valueOf, lastNumber}
 use Rattle.tables.specs.Layout.{View, view}
 use Rattle.book.specs.Book.{nextOf, worldOf}
 use Rattle.book.specs.Enact.{movedOn, enactView, enactArea}

@@ -1,12 +1,11 @@
 -- RULES 7.2: "It answers 1 if an area's length is wrong, and otherwise 4 if f is not in that range. It then leaves both areas as lent. What the book held does not matter."
 -- 7.4: "Start has value 0."
 use Prim.Native.Nat.{ℕ}
-use mathlib.Core.Bool.{Bool, true, false, cond}
+use mathlib.Core.Bool.{Bool, false, cond}
 use mathlib.Core.Path.{_≡_}
 use mathlib.Core.List.{List}
 use lib.ListN.{length}
 use lib.Dec.{eqb}
-use Rattle.quotas.specs.Any.{both}
 use Rattle.rules.specs.Kernel.{startable}
 use Rattle.tables.specs.Layout.{view, size}
 use Rattle.book.specs.Enact.{areaSize, startView, startArea}

@@ -1,14 +1,14 @@
 -- Short histories, each through a rule that is easily got wrong (most are those of RULES 10.3). All start at
 -- 5: the root is 5, its thread 6, the first call 7.
-use Prim.Native.Nat.{ℕ, _+_}
+use Prim.Native.Nat.{ℕ}
 use mathlib.Core.Path.{_≡_, refl}
 use mathlib.Core.List.{List, [], _∷_}
-use lib.ListN.{length, take, drop, replicate}
+use lib.ListN.{replicate}
 use Rattle.labels.specs.Le.{leAt, leBytes}
 use Rattle.labels.specs.Core.{levelAt, everyNamed, holdsB, compareB, zerosB, wordsB, formedB, insertW, roomB, wordsAt, labelOf, wordsBytes, labelBytes}
 use Rattle.quotas.specs.Sum.{Σ, when}
 use Rattle.quotas.specs.Any.{any, both, either}
-use Rattle.rules.specs.Kernel.{Call, createCategory, setLabel, createContainer, createSegment, createGate, createThread, unreference, linkSegment, fixQuota, moveQuota, read, write, resize, enterGate, start, call, after, tests, judge, must, opens, entry, make, move, access, forbids, fits, spareOf, useOf, charged, units, answerOf, valueOf, outputOf, leaves, apply, put, linkIn, under, below, stays, kept, edit, goodArguments, goodLabel, goodText, holds, allHold, flow, reading, writing, floorFlow, flowJoin, flowJoinHigh, containerOf, segmentOf, gateOf, threadOf, clearedAt, lookBytes, overwrite, resized, orDefault, kindCode, isLive, isThread, isGate, isSegment, isContainer, hasClearance, blank, nothing}
+use Rattle.rules.specs.Kernel.{createCategory, setLabel, createContainer, createSegment, createGate, createThread, unreference, linkSegment, fixQuota, read, write, resize, enterGate, start, call, after, tests, judge, must, opens, entry, make, move, access, forbids, fits, spareOf, useOf, charged, units, answerOf, valueOf, outputOf, leaves, apply, put, linkIn, under, below, stays, kept, edit, goodArguments, goodLabel, goodText, holds, allHold, flow, reading, writing, floorFlow, flowJoin, flowJoinHigh, containerOf, segmentOf, gateOf, threadOf, clearedAt, lookBytes, overwrite, resized, orDefault, kindCode, isLive, isThread, isGate, isSegment, isContainer, hasClearance, blank, nothing}
 use Rattle.examples.specs.Play.{Turn, Said, Day, turn, said, day, run, played, written, wordsFor, lent, zeros32}
 
 -- the labels {1}, {2}, {7:3, 1}, {7:star, 1}, {7:3, 2}

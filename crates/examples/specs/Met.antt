@@ -1,25 +1,23 @@
 -- The premises of the theorems over histories are met: `grantday` (RULES 10.2), taken up to several of its
 -- calls, has what they ask for, and what they promise is what it computes. Container 103 is granted 20 units
 -- for thread 101's work; thread 107 is a neighbour that may not write it.
-use Prim.Native.Nat.{ℕ, _≤_, _<_}
+use Prim.Native.Nat.{ℕ, _<_}
 use native.Mathlib.Omega.{arith}
 use mathlib.Core.Bool.{true, false}
 use mathlib.Core.Path.{_≡_, refl}
 use mathlib.Core.List.{List, [], _∷_}
-use lib.ListN.{length, take, drop, replicate, getD}
 use lib.IntN.{negsuc}
 use Rattle.labels.specs.Le.{leAt, leBytes}
 use Rattle.labels.specs.Core.{levelAt, everyNamed, holdsB, compareB, zerosB, wordsB, formedB, insertW, roomB, wordsAt, labelOf, wordsBytes, labelBytes}
 use Rattle.quotas.specs.Sum.{Σ, when}
 use Rattle.quotas.specs.Any.{any, both, either}
-use Rattle.rules.specs.Kernel.{Call, createCategory, setLabel, createContainer, createSegment, createThread, unreference, moveQuota, read, write, resize, History, started, next, worldAfter, startable, start, call, after, tests, judge, must, opens, entry, make, move, access, forbids, fits, spareOf, useOf, holdOf, charged, units, answerOf, valueOf, outputOf, leaves, apply, put, linkIn, under, below, stays, kept, edit, goodArguments, goodLabel, goodText, holds, allHold, flow, reading, writing, floorFlow, flowJoin, flowJoinHigh, containerOf, segmentOf, gateOf, threadOf, clearedAt, lookBytes, overwrite, resized, orDefault, kindCode, isLive, isThread, isGate, isSegment, isContainer, hasClearance, blank, nothing}
+use Rattle.rules.specs.Kernel.{Call, createCategory, setLabel, createContainer, createSegment, createThread, unreference, moveQuota, read, write, resize, History, started, next, worldAfter, startable, start, call, after, tests, judge, must, opens, entry, make, move, access, forbids, fits, spareOf, useOf, holdOf, charged, units, answerOf, leaves, apply, put, linkIn, under, below, stays, kept, edit, goodArguments, goodLabel, goodText, holds, allHold, flow, reading, writing, floorFlow, flowJoin, flowJoinHigh, containerOf, segmentOf, gateOf, threadOf, clearedAt, overwrite, resized, orDefault, kindCode, isLive, isThread, isGate, isSegment, isContainer, hasClearance, blank, nothing}
 use Rattle.rules.specs.Sound.{Sound}
 use Rattle.rules.specs.Histories.{firstWorld, WellStarted}
-use Rattle.rules.specs.Ledger.{lineIf, lineOf, granted, grantedBy, charge, chargeBy, reckoned, spends, draws, needs, takesUnits, askedOf, unitsAsked, refusedEarlier, writer, Meanwhile, nothingYet, another}
+use Rattle.rules.specs.Ledger.{lineIf, lineOf, granted, grantedBy, charge, chargeBy, reckoned, takesUnits, askedOf, unitsAsked, refusedEarlier, writer, Meanwhile, nothingYet, another}
 use Rattle.rules.specs.Trees.{inTree}
 use Rattle.rules.specs.Written.{lastWritten, leftBy}
 use Rattle.rules.specs.Theorems.StaysSound.{start-is-sound, history-sound}
-use Rattle.rules.specs.Theorems.Reckoned.{reckoned-is-spare}
 use Rattle.rules.specs.Theorems.Granted.{room-is-kept, growth-is-kept}
 use Rattle.rules.specs.Theorems.Shrinks.{reckoned-shrinks-by}
 use Rattle.examples.specs.Play.{wordsFor, lent, zeros32, bytesB, into}

@@ -1,5 +1,5 @@
 -- A history played call by call, with what each call says.
-use Prim.Native.Nat.{ℕ, zero, suc, _+_, _-_, _<_}
+use Prim.Native.Nat.{ℕ, zero, suc, _-_, _<_}
 use native.Mathlib.Omega.{arith}
 use mathlib.Core.Bool.{Bool, true, _&&_}
 use mathlib.Core.Path.{_≡_}
@@ -8,7 +8,6 @@ use lib.ListN.{getD, replicate}
 use lib.Dec.{ltb}
 use borrow.Author.Tests.{ltb-true}
 use lib.IntN.{ℤ, pos, negsuc}
-use Rattle.labels.specs.declared.Label.{Label}
 use Rattle.labels.specs.Core.{labelBytes, wordOf, wordCount}
 use Rattle.rules.specs.Kernel.{World, Call, start, call, after, answerOf, valueOf, outputOf}
 use Rattle.rules.specs.Laws.Bools.{and-l, and-r}

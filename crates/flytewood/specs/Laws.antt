@@ -8,7 +8,7 @@ use lib.Dec.{eqb}
 use borrow.Author.Tests.{eqb-true}
 use mir.Syntax.{w8}
 use mir.Val.{Fits}
-use Rattle.rules.specs.Kernel.{Call, Verdict, refuse, grant, read, answerOf, valueOf, outputOf}
+use Rattle.rules.specs.Kernel.{Call, Verdict, refuse, grant, answerOf, valueOf, outputOf}
 use Rattle.rules.specs.Answers.{outputSize}
 use Rattle.rules.specs.Laws.Bools.{bool-cases}
 use Rattle.rules.specs.Theorems.Outputs.{no-output}

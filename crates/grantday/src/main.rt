@@ -1,5 +1,4 @@
 // The day of docs/RULES.md 10.2, run on the kernel: one line a call, with its number, caller, call, answer and value.
-ghost use Prim.Native.Nat.{_<_};
 ghost use mathlib.Core.Path.{_≡_};
 ghost use lib.ListN.{length};
 ghost use Rattle.rules.specs.Kernel.{started};

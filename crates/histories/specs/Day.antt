@@ -3,17 +3,16 @@
 -- day itself left is what the program grantday is proved to show.
 use Prim.Native.Nat.{ℕ, _+_, _≤_, _<_}
 use native.Mathlib.Omega.{arith}
-use mathlib.Core.Bool.{true, false, cond}
+use mathlib.Core.Bool.{true, false}
 use mathlib.Core.Path.{_≡_, refl, sym, ap, subst, _∙_}
 use mathlib.Core.List.{List, []}
 use lib.ListN.{length, getD}
-use lib.Dec.{leb}
 use borrow.Author.Tests.{eq-eqb}
 use Rattle.labels.specs.Le.{leAt, leSet}
 use Rattle.quotas.specs.Sum.{Σ, when}
 use Rattle.quotas.specs.Any.{any, any-of}
-use Rattle.rules.specs.Kernel.{World, segmentCode, read, resize, isLive, isContainer, isSegment, units, holdOf, spareOf, orDefault, call, answerOf, worldAfter, next}
-use Rattle.rules.specs.Ledger.{lineIf, takesUnits, askedOf, unitsAsked, refusedEarlier, reckoned, writer}
+use Rattle.rules.specs.Kernel.{World, segmentCode, read, resize, isLive, isContainer, isSegment, units, holdOf, spareOf, orDefault, worldAfter, next}
+use Rattle.rules.specs.Ledger.{lineIf, takesUnits, askedOf, unitsAsked, refusedEarlier, writer}
 use Rattle.rules.specs.Trees.{inTree}
 use Rattle.rules.specs.Laws.Bools.{not-both}
 use Rattle.tables.specs.Layout.{view}
@@ -21,10 +20,9 @@ use Rattle.book.specs.Book.{idOf, codeOf}
 use Rattle.book.specs.Sound.{Sound}
 use Rattle.book.specs.Laws.Tie.{code-live, segment-at, world-next}
 use Rattle.book.specs.Laws.WorldSound.{placed}
-use Rattle.examples.specs.Met.{granting, grown, crowding, filled, noted, gone, fill, takeBack, oneMore, Met, met, OfTheDay, of-the-day}
+use Rattle.examples.specs.Met.{granting, grown, crowding, filled, noted, gone, fill, takeBack, oneMore, met, of-the-day}
 use Rattle.flytewood.specs.Called.{Bytes, Called}
 use Rattle.histories.specs.Areas.{world, After}
-use Rattle.histories.specs.Demands.{Refusal}
 use Rattle.histories.specs.Theorems.{demand-1, next-as-ruled, spells-the-world, clearing-shows, stays-sound, tree-holds, reckoned-is-the-spare, reads-show, granted-exactly, shrinks-by, room-kept, list-can-grow}
 
 -- call 107's container, as the areas have it

@@ -3,7 +3,7 @@ use Prim.Native.Nat.{ℕ, _+_, _*_, _≤_, _<_}
 use native.Mathlib.Decide.{ℕ-discrete}
 use native.Mathlib.Omega.{arith}
 use mathlib.Core.Bool.{Bool, true, false, cond}
-use mathlib.Core.Path.{_≡_, refl, sym, ap, ap₂, subst, _∙_}
+use mathlib.Core.Path.{_≡_, refl, sym, ap, subst, _∙_}
 use mathlib.Core.List.{List, [], _∷_}
 use lib.ListN.{length, getD}
 use lib.Dec.{eqb, leb}
@@ -13,7 +13,7 @@ use Rattle.rules.specs.Kernel.{World, Call, read, resize, isLive, isContainer, 
 use Rattle.rules.specs.Answers.{oneOf}
 use Rattle.rules.specs.Trees.{inTree}
 use Rattle.rules.specs.Written.{lastWritten}
-use Rattle.rules.specs.Ledger.{reckoned, spends, draws, needs, refusedEarlier, writer, Meanwhile}
+use Rattle.rules.specs.Ledger.{reckoned, spends, draws, needs, refusedEarlier, writer}
 use Rattle.rules.specs.Theorems.Refusals.{never-one}
 use Rattle.rules.specs.Theorems.Holds.{history-tree-holds}
 use Rattle.rules.specs.Theorems.Reckoned.{reckoned-is-spare}

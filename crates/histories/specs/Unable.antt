@@ -1,15 +1,14 @@
 -- No program that ends and meets the contracts is of one of the four kinds of Programs. It starts at 100 and makes the first calls of the day of docs/RULES.md 10.2; by the
 -- rules their answers and objects are not such a program's.
-use Prim.Native.Nat.{ℕ, zero, suc, _≤_, _<_}
+use Prim.Native.Nat.{ℕ, zero, suc, _<_}
 use native.Mathlib.Omega.{arith}
-use mathlib.Core.Bool.{Bool, true, false}
+use mathlib.Core.Bool.{true, false}
 use mathlib.Core.Path.{_≡_, refl, sym, ap, subst, _∙_}
 use mathlib.Core.List.{List, []}
 use lib.ListN.{length, getD, replicate, length-replicate}
 use lib.Dec.{eqb}
 use borrow.Author.Tests.{eq-eqb}
-use Rattle.rules.specs.Kernel.{World, Call, createCategory, isLive, startable, call, after, answerOf, valueOf, History, started, next, worldAfter}
-use Rattle.rules.specs.Sound.{Sound}
+use Rattle.rules.specs.Kernel.{World, Call, createCategory, isLive, startable, call, after, answerOf, History, started, next, worldAfter}
 use Rattle.rules.specs.Issued.{callNumber, creates, issues}
 use Rattle.rules.specs.Laws.Bools.{bool-cases, not-both, or-i-r}
 use Rattle.rules.specs.Theorems.StaysSound.{history-sound}
@@ -18,7 +17,7 @@ use Rattle.tables.specs.Layout.{size}
 use Rattle.book.specs.Enact.{areaSize}
 use Rattle.calls.specs.Started.{lengthsRight, startAnswer}
 use Rattle.examples.specs.Play.{zeros32, bytes-below}
-use Rattle.examples.specs.Met.{tainted, room, list, morning, OfTheDay, of-the-day}
+use Rattle.examples.specs.Met.{tainted, room, list, morning, of-the-day}
 use Rattle.flytewood.specs.Called.{Bytes, Called, Started}
 use Rattle.histories.specs.Areas.{world, After, begun, called}
 use Rattle.histories.specs.Programs as the

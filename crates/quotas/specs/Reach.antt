@@ -1,15 +1,14 @@
 -- Every live object is reached from the root, so no quota is above the root's; and blocks are never wanting.
 use mathlib.Core.Path.{_≡_, refl, sym, ap, subst, _∙_}
-use mathlib.Core.Bool.{Bool, true, false, not}
-use mathlib.Core.Logic.{⊎-elim, _⊎_, inl, inr}
-use Prim.Native.Nat.{ℕ, zero, suc, _+_, _*_, _-_, _<_, _≤_}
+use mathlib.Core.Bool.{Bool, true, false}
+use Prim.Native.Nat.{ℕ, zero, suc, _+_, _-_, _<_, _≤_}
 use native.Mathlib.Decide.{ℕ-discrete}
 use native.Mathlib.Omega.{arith}
 use lib.Dec.{eqb}
-use borrow.Author.Tests.{eqb-true, eqb-false, eq-eqb, ne-eqb}
+use borrow.Author.Tests.{ne-eqb}
 use Rattle.quotas.specs.Any.{no-both}
-use Rattle.quotas.specs.Sum.{Σ, when, put, put-here, put-else, sum-cong, sum-mono, sum-add, sum-none, sum-swap, sum-term, sum-change, sum-pick, when-true, when-false, when-cong, when-none, when-le, when-swap}
-use Rattle.quotas.specs.Tree.{View, Sound, Way, here, step, linked, use-of, links, spare-of, quota-falls, way-falls}
+use Rattle.quotas.specs.Sum.{Σ, when, put, put-here, put-else, sum-cong, sum-mono, sum-add, sum-none, sum-swap, sum-term, sum-change, sum-pick, when-true, when-false, when-none}
+use Rattle.quotas.specs.Tree.{View, Sound, Way, here, step, links, quota-falls, way-falls}
 use Rattle.quotas.specs.Room.{link-of, all-held}
 
 module _ (v : View) (n m root : ℕ) (s : Sound v n m root) where

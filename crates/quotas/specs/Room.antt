@@ -1,14 +1,12 @@
 -- Room is never wanting elsewhere: where a container has spare, a row and a link are free.
-use mathlib.Core.Path.{_≡_, refl, sym, ap, subst, _∙_}
+use mathlib.Core.Path.{_≡_, refl, ap}
 use mathlib.Core.Bool.{Bool, true, false, not}
-use mathlib.Core.Logic.{⊎-elim}
-use Prim.Native.Nat.{ℕ, zero, suc, _+_, _*_, _-_, _<_, _≤_}
+use Prim.Native.Nat.{ℕ, _+_, _<_, _≤_}
 use native.Mathlib.Omega.{arith}
 use lib.Dec.{eqb}
-use borrow.Author.Tests.{eqb-true, eqb-false, eq-eqb, ne-eqb}
-use Rattle.quotas.specs.Sum.{Σ, when, sum-cong, sum-mono, sum-add, sum-none, sum-swap, sum-term, sum-only, sum-point, sum-when, sum-const, sum-const2, sum-pick, when-true, when-false, when-cong, when-none, when-add, when-swap, when-split, when-le, free-one, found, sum-pos, when-pos}
-use Rattle.quotas.specs.Any.{no-both}
-use Rattle.quotas.specs.Tree.{View, Sound, Part, Within, linked, use-of, links, inner, leaf, spare-of, telescope, by-links, held-within, quota-falls}
+use borrow.Author.Tests.{eqb-true, eq-eqb}
+use Rattle.quotas.specs.Sum.{Σ, when, sum-mono, sum-add, sum-term, when-true, when-le, free-one, sum-pos, when-pos}
+use Rattle.quotas.specs.Tree.{View, Sound, Part, Within, links, inner, leaf, spare-of, telescope, by-links, held-within}
 
 module _ (v : View) (n m root : ℕ) (s : Sound v n m root) where
   -- a link to r is one of r's links

@@ -1,13 +1,12 @@
 -- A book seen as functions of row and link numbers, and what its quotas add up to.
 use mathlib.Core.Path.{_≡_, refl, sym, ap, subst, _∙_}
 use mathlib.Core.Bool.{Bool, true, false, not}
-use mathlib.Core.Logic.{⊎-elim}
 use Prim.Native.Nat.{ℕ, zero, suc, _+_, _*_, _-_, _<_, _≤_}
 use native.Mathlib.Omega.{arith}
 use lib.Dec.{eqb}
 use borrow.Author.Tests.{eqb-true, eqb-false, eq-eqb, ne-eqb}
 use Rattle.quotas.specs.Any.{no-both}
-use Rattle.quotas.specs.Sum.{Σ, when, sum-cong, sum-mono, sum-add, sum-none, sum-swap, sum-term, sum-only, sum-point, sum-when, sum-const, sum-const2, sum-pick, when-true, when-false, when-cong, when-none, when-add, when-swap, when-split, when-le, free-one, found}
+use Rattle.quotas.specs.Sum.{Σ, when, sum-cong, sum-mono, sum-add, sum-none, sum-swap, sum-term, sum-point, sum-when, sum-const2, sum-pick, when-true, when-false, when-cong, when-none, when-add, when-swap, when-split, when-le}
 
 pub record View : Type 0 where
   -- row r is live; is a live container

@@ -1,17 +1,17 @@
 -- The tree of a container: what a way down the links leads to.
-use mathlib.Core.Path.{_≡_, refl, sym, ap, subst, _∙_}
-use mathlib.Core.Bool.{Bool, true, false, not}
-use mathlib.Core.Logic.{⊎-elim, _⊎_, inl, inr}
-use Prim.Native.Nat.{ℕ, zero, suc, _+_, _*_, _-_, _<_, _≤_}
+use mathlib.Core.Path.{_≡_, refl, sym, subst, _∙_}
+use mathlib.Core.Bool.{Bool, true}
+use mathlib.Core.Logic.{⊎-elim}
+use Prim.Native.Nat.{ℕ, zero, suc, _+_, _<_, _≤_}
 use native.Mathlib.Nat.{not-suc-le-zero, eq-or-lt-of-le, le-of-suc-le-suc}
 use native.Mathlib.Decide.{ℕ-discrete}
 use native.Mathlib.Omega.{arith}
 use lib.Dec.{eqb}
-use borrow.Author.Tests.{eqb-true, eqb-false, eq-eqb, ne-eqb}
+use borrow.Author.Tests.{eqb-true, eq-eqb}
 use Rattle.quotas.specs.Any.{no-both, both, either, any, both-parts, both-of, either-parts, either-left, either-right, any-found, any-of}
-use Rattle.quotas.specs.Sum.{Σ, when, sum-cong, sum-mono, sum-add, sum-none, sum-swap, sum-term, sum-only, sum-point, sum-when, sum-const, sum-const2, sum-pick, when-true, when-false, when-cong, when-none, when-add, when-swap, when-split, when-le, free-one, found, sum-pos, when-pos}
-use Rattle.quotas.specs.Tree.{View, Sound, Part, Within, Way, here, step, linked, use-of, links, inner, leaf, spare-of, telescope, by-links, held-within, quota-falls, way-falls, no-cycle}
-use Rattle.quotas.specs.Room.{counted, link-of}
+use Rattle.quotas.specs.Sum.{Σ, when, sum-term, when-true}
+use Rattle.quotas.specs.Tree.{View, Sound, Part, Within, Way, here, step, links, spare-of, held-within, way-falls, no-cycle}
+use Rattle.quotas.specs.Room.{counted}
 
 -- r is at most k steps down from d
 unfoldable pub within-steps : View → ℕ → ℕ → ℕ → ℕ → Bool

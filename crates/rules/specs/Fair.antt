@@ -1,13 +1,13 @@
 -- What the change of a granted call is known to respect. Laws/Grants shows it of every granted call, Laws/Keep that such a change keeps a world sound.
-use Prim.Native.Nat.{ℕ, suc, _+_, _<_, _≤_}
-use mathlib.Core.Bool.{Bool, true, false, _||_}
+use Prim.Native.Nat.{ℕ, suc, _+_, _≤_}
+use mathlib.Core.Bool.{true, false, _||_}
 use mathlib.Core.Path.{_≡_}
 use mathlib.Core.List.{List, []}
 use lib.ListN.{length}
 use lib.Bits.{bitOr}
 use Rattle.labels.specs.declared.Label.{Label}
 use Rattle.labels.specs.Core.{wellFormed, flows, wordCount}
-use Rattle.rules.specs.Kernel.{Kind, isLive, isThread, isSegment, isContainer, hasClearance, Obj, World, Edit, relabel, fix, requota, rewrite, Change, keep, alter, create, cut, link, units, useOf, maxLength}
+use Rattle.rules.specs.Kernel.{isLive, isThread, isSegment, isContainer, hasClearance, Obj, World, relabel, fix, requota, rewrite, Change, keep, alter, create, cut, link, units, useOf, maxLength}
 use Rattle.rules.specs.Sound.{InRange, Formed}
 
 -- what soundness says of one object alone, against the number n

@@ -1,7 +1,7 @@
 -- The containers that a call names. RULES 6.5: "A container that the call names does not exist, is an object
 -- of another kind, or may not be read by the caller; .."
 use Prim.Native.Nat.{ℕ}
-use mathlib.Core.Bool.{Bool, true, false, not, _&&_}
+use mathlib.Core.Bool.{Bool, true, _&&_}
 use mathlib.Core.List.{List, [], _∷_}
 use Rattle.rules.specs.Kernel.{Obj, World, opens, Call, createCategory, setLabel, setClearance, createContainer, createSegment, createGate, createThread, unreference, linkSegment, fixQuota, moveQuota, read, write, resize, enterGate, look}
 

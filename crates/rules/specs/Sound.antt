@@ -3,12 +3,12 @@
 -- objects share an id (5.2) and that none is linked twice in one container (5.7) is in the form of a world:
 -- objects go by id, and a pair is linked or not.
 use Prim.Native.Nat.{ℕ, suc, _<_, _≤_}
-use mathlib.Core.Bool.{Bool, true, false}
+use mathlib.Core.Bool.{true, false}
 use mathlib.Core.Path.{_≡_}
 use lib.ListN.{length}
 use lib.Bits.{bitOr}
 use Rattle.labels.specs.Core.{wellFormed, flows, wordCount}
-use Rattle.rules.specs.Kernel.{Kind, isLive, isGate, isSegment, isContainer, hasClearance, Obj, World, useOf, lastNumber, rootQuota, maxMask, maxLength, textSize}
+use Rattle.rules.specs.Kernel.{isLive, isGate, isSegment, isContainer, hasClearance, Obj, World, useOf, lastNumber, rootQuota, maxMask, maxLength, textSize}
 
 -- RULES 5.1: "Each field has a value in its range: .. a thread or gate has quota 1, .. a mask is at most 15,
 -- a length at most 16,256, .." Only segments are fixed.

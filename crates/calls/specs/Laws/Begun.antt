@@ -1,27 +1,24 @@
 -- From what a call asks first to the verdict.
 use Prim.Native.Nat.{ℕ, _≤_, _<_}
 use native.Mathlib.Omega.{arith}
-use mathlib.Core.Bool.{Bool, true, false, _&&_}
+use mathlib.Core.Bool.{true, false}
 use mathlib.Core.Logic.{_⊎_, ⊎-elim}
-use mathlib.Core.Path.{_≡_, refl, sym, ap, subst, _∙_}
+use mathlib.Core.Path.{_≡_, sym, ap, _∙_}
 use mathlib.Core.List.{List}
-use lib.Dec.{leb}
-use Rattle.labels.specs.declared.Label.{Label}
-use Rattle.rules.specs.Kernel.{threadCode, Obj, World, Verdict, refuse, Call, judge, isThread, goodArguments, lastNumber}
-use Rattle.rules.specs.Sound as rules
-use Rattle.tables.specs.Layout.{View, view, rowCount}
-use Rattle.book.specs.declared.Found.the-variants.{At, Nothing}
-use Rattle.book.specs.Book.{nextOf, codeOf, idOf, labelOf, clearanceOf, objectAt, worldOf, rowOf}
+use Rattle.rules.specs.Kernel.{threadCode, Obj, refuse, Call, judge, isThread, goodArguments, lastNumber}
+use Rattle.tables.specs.Layout.{view, rowCount}
+use Rattle.book.specs.declared.Found.the-variants.{Nothing}
+use Rattle.book.specs.Book.{nextOf, codeOf, labelOf, clearanceOf, objectAt, worldOf}
 use Rattle.book.specs.Find.{threadRow}
 use Rattle.book.specs.Placed.{Placed}
-use Rattle.book.specs.Sound.{Sound, Live}
+use Rattle.book.specs.Sound.{Sound}
 use Rattle.book.specs.Test.{areasB}
 use Rattle.book.specs.Laws.Find.{kind-is, row-low, thread-found, thread-none}
-use Rattle.book.specs.Laws.Tie.{row-is, object-label, object-clearance, code-live}
+use Rattle.book.specs.Laws.Tie.{object-label, object-clearance}
 use Rattle.book.specs.Laws.WorldSound.{placed}
 use Rattle.calls.specs.Outcome.{verdictOn, Ready}
-use Rattle.calls.specs.Begun.{Caller, BegunAs}
-use Rattle.calls.specs.Laws.Prelude.{book-sound, is-sound, verdict-one, verdict-two, verdict-three, verdict-four, verdict-judged}
+use Rattle.calls.specs.Begun.{Caller}
+use Rattle.calls.specs.Laws.Prelude.{book-sound, verdict-one, verdict-two, verdict-three, verdict-four, verdict-judged}
 
 module _ (b area : List ℕ) (c : ℕ) (x : Call) where
   -- stopped: the verdict is that refusal, and it is 1 or 2

@@ -9,7 +9,7 @@ use lib.Dec.{eqb, leb}
 use lib.IntN.{ℤ}
 use borrow.Author.Tests.{eq-eqb, ne-eqb, eqb-true, eqb-false, leb-true}
 use Rattle.labels.specs.declared.Label.{Label}
-use Rattle.rules.specs.Kernel.{segmentCode, containerCode, Obj, refuse, grant, must, entry, fits, isSegment, isContainer, allHold, writing, flow, moveQuota, alter, requota, rootQuota, lastNumber}
+use Rattle.rules.specs.Kernel.{segmentCode, containerCode, Obj, refuse, grant, must, fits, isSegment, isContainer, allHold, writing, flow, moveQuota, alter, requota, rootQuota, lastNumber}
 use Rattle.rules.specs.Laws.Bools.{bool-cases}
 use Rattle.tables.specs.Layout.{View, view}
 use Rattle.book.specs.declared.find.Entry.the-variants as place

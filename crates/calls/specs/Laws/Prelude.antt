@@ -1,26 +1,24 @@
 -- What every call's judging begins with, and what its tests make of the verdict.
-use Prim.Native.Nat.{ℕ, suc, _≤_, _<_}
+use Prim.Native.Nat.{ℕ, _≤_, _<_}
 use native.Mathlib.Omega.{arith}
-use mathlib.Core.Bool.{Bool, true, false, cond, _&&_, false≢true}
-use mathlib.Core.Path.{_≡_, refl, sym, ap, subst, _∙_}
-use mathlib.Core.List.{List, []}
+use mathlib.Core.Bool.{Bool, true, false, _&&_, false≢true}
+use mathlib.Core.Path.{_≡_, refl, sym, _∙_}
+use mathlib.Core.List.{List}
 use lib.ListN.{length}
-use lib.Dec.{eqb, leb}
-use borrow.Author.Tests.{le-leb, lt-leb, eqb-true, leb-true}
-use Rattle.labels.specs.Core.{mayRead}
-use Rattle.rules.specs.Kernel.{Verdict, refuse, grant, must, Call, Change, call, tests, judge, isThread, isContainer, goodArguments, opens, lastNumber, answerOf, valueOf}
+use lib.Dec.{eqb}
+use borrow.Author.Tests.{le-leb, lt-leb, eqb-true}
+use Rattle.rules.specs.Kernel.{Verdict, refuse, grant, must, Call, Change, call, tests, judge, isThread, goodArguments, lastNumber, answerOf, valueOf}
 use Rattle.rules.specs.Sound as rules
-use Rattle.tables.specs.Layout.{View, view, size}
-use Rattle.book.specs.Book.{nextOf, worldOf, idOf, codeOf, labelOf, clearanceOf, objectAt, rowOf}
-use Rattle.book.specs.Sound.{Sound, Live}
+use Rattle.tables.specs.Layout.{view, size}
+use Rattle.book.specs.Book.{nextOf, worldOf}
+use Rattle.book.specs.Sound.{Sound}
 use Rattle.book.specs.Enact.{areaSize, movedOn, enactView, enactArea}
 use Rattle.book.specs.Test.{areasB, soundB}
 use Rattle.book.specs.Laws.Means.{sound-means}
 use Rattle.book.specs.Laws.Shapes.{view-shape}
-use Rattle.book.specs.Laws.WorldSound.{placed, world-sound}
-use Rattle.book.specs.Laws.Tie.{obj-at, code-live, thread-at}
+use Rattle.book.specs.Laws.WorldSound.{world-sound}
 use Rattle.calls.specs.declared.Answer.the-variants.{Granted, Refused}
-use Rattle.calls.specs.Outcome.{verdictOn, bookLeft, areaLeft, Left, Done, Ready}
+use Rattle.calls.specs.Outcome.{verdictOn, bookLeft, areaLeft, Done, Ready}
 
 -- ---- must
 

@@ -1,7 +1,7 @@
 -- Whatever a call leaves of good areas, what no live segment holds stays zero.
 use Prim.Native.Nat.{ℕ}
-use mathlib.Core.Bool.{Bool, true, false}
-use mathlib.Core.Path.{_≡_, refl, sym, ap, subst}
+use mathlib.Core.Bool.{true}
+use mathlib.Core.Path.{_≡_, refl, sym, subst}
 use mathlib.Core.List.{List}
 use lib.Dec.{leb}
 use Rattle.rules.specs.Kernel.{Call, Verdict, refuse, grant, call}

@@ -1,28 +1,26 @@
 -- Whatever a call leaves, it leaves good areas good, and their world is the rules' world after the call.
 use Prim.Native.Nat.{ℕ, _≤_}
 use native.Mathlib.Omega.{arith}
-use mathlib.Core.Bool.{Bool, true, false, cond, _&&_}
+use mathlib.Core.Bool.{true, false}
 use mathlib.Core.Path.{_≡_, refl, sym, ap, ap₂, subst, _∙_}
 use mathlib.Core.List.{List}
 use lib.ListN.{length}
-use lib.Dec.{eqb, leb}
+use lib.Dec.{leb}
 use borrow.Author.Tests.{eq-eqb, leb-true}
-use Rattle.rules.specs.Kernel.{World, Call, Edit, relabel, fix, requota, rewrite, Change, keep, alter, create, cut, link, Verdict, refuse, grant, call, tests, after, leaves, apply, lastNumber}
+use Rattle.rules.specs.Kernel.{Call, Edit, relabel, fix, requota, rewrite, Change, keep, alter, create, cut, link, Verdict, refuse, grant, call, tests, after, leaves, apply, lastNumber}
 use Rattle.rules.specs.Fair.{Fair}
-use Rattle.rules.specs.Sound as rules
 use Rattle.rules.specs.Laws.Bools.{bool-cases, not-both}
 use Rattle.rules.specs.Laws.Grants.{grants-fair}
 use Rattle.rules.specs.Laws.Must.{passed}
 use Rattle.tables.specs.Layout.{View, view, size}
 use Rattle.book.specs.Book.{nextOf, rowOf, worldOf}
 use Rattle.book.specs.Sound.{Sound}
-use Rattle.book.specs.Shape.{Shape}
-use Rattle.book.specs.Enact.{areaSize, movedOn, enactView, enactArea, alteredArea, areaAfter, cutArea}
-use Rattle.book.specs.Test.{areasB, soundB}
+use Rattle.book.specs.Enact.{areaSize, enactView, enactArea, alteredArea, areaAfter, cutArea}
+use Rattle.book.specs.Test.{areasB}
 use Rattle.book.specs.Laws.First.{collect-length, found-cases, on-at, on-nothing}
 use Rattle.book.specs.Laws.Means.{sound-means}
 use Rattle.book.specs.Laws.Shapes.{view-shape}
-use Rattle.book.specs.Laws.Enacted.{Enacted, keep-enacted, enacted-sound}
+use Rattle.book.specs.Laws.Enacted.{enacted-sound}
 use Rattle.book.specs.Laws.Every.{Storable, every-enacted}
 use Rattle.book.specs.Laws.Tie.{world-next}
 use Rattle.calls.specs.Outcome.{verdictOn, bookLeft, areaLeft, Left}

@@ -1,16 +1,14 @@
 -- There is only one outcome: two results that both meet a call's contract on the same input are the same number, value and bytes.
 use Prim.Native.Nat.{ℕ, _<_}
-use mathlib.Core.Bool.{Bool, true, false}
-use mathlib.Core.Path.{_≡_, refl, sym, _∙_}
+use mathlib.Core.Path.{_≡_, sym, _∙_}
 use mathlib.Core.List.{List}
-use lib.ListN.{length, getD}
+use lib.ListN.{getD}
 use Rattle.rules.specs.Kernel.{Call}
 use Rattle.rules.specs.Laws.Bools.{bool-cases}
-use Rattle.tables.specs.Layout.{view, size}
 use Rattle.tables.specs.Layout.Only.{view-only}
 use Rattle.book.specs.Test.{areasB}
 use Rattle.calls.specs.declared.Answer.{Answer}
-use Rattle.calls.specs.Outcome.{numberOf, valueIn, Left, Done}
+use Rattle.calls.specs.Outcome.{numberOf, valueIn, Done}
 use Rattle.calls.specs.Laws.Prelude.{book-long}
 
 pub record SameOutcome (r s : Answer) (b₁ area₁ b₂ area₂ : List ℕ) : Type 0 where

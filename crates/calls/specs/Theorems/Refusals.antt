@@ -1,22 +1,20 @@
 -- Demand 1 (docs/DEMANDS.md), once for all calls, over any areas whatever. RULES 6.14: "A refused call has value 0. It leaves both areas and every output as they were,
 -- unused bytes too, but for the next number (4.2)."
 use Prim.Native.Nat.{ℕ, _≤_, _<_}
-use native.Mathlib.Omega.{arith}
-use mathlib.Core.Bool.{Bool, true, false, cond}
+use mathlib.Core.Bool.{true}
 use mathlib.Core.Path.{_≡_, refl, sym, ap, _∙_}
 use mathlib.Core.List.{List}
-use lib.ListN.{length, getD}
-use lib.Dec.{leb}
+use lib.ListN.{getD}
 use borrow.Author.Tests.{le-leb, lt-leb}
 use Rattle.rules.specs.Kernel.{Call, Verdict, refuse, grant, answerOf, valueOf}
 use Rattle.rules.specs.Laws.Bools.{bool-cases}
-use Rattle.tables.specs.Layout.{view, size}
+use Rattle.tables.specs.Layout.{view}
 use Rattle.tables.specs.Layout.Only.{view-only}
 use Rattle.book.specs.Enact.{movedOn}
 use Rattle.book.specs.Test.{areasB}
 use Rattle.calls.specs.declared.Answer.{Answer}
-use Rattle.calls.specs.Outcome.{verdictOn, bookLeft, areaLeft, outputLeft, numberOf, valueIn, Left, Done}
-use Rattle.calls.specs.Laws.Prelude.{book-long, verdict-one}
+use Rattle.calls.specs.Outcome.{verdictOn, bookLeft, areaLeft, outputLeft, numberOf, valueIn, Done}
+use Rattle.calls.specs.Laws.Prelude.{book-long}
 
 -- a verdict whose answer is not 0 is a refusal by that number
 refusal : (v : Verdict) → (answerOf v ≡ 0 → ⊥) → v ≡ refuse (answerOf v)

@@ -1,27 +1,26 @@
 -- Demand 1 from the contract of the exported calls.
 use Prim.Native.Nat.{ℕ, zero, suc, _+_, _/_, _%_, _≤_, _<_}
 use native.Mathlib.Omega.{arith}
-use mathlib.Core.Bool.{Bool, true, false}
+use mathlib.Core.Bool.{true}
 use mathlib.Core.Path.{_≡_, refl, sym, ap, subst, _∙_}
 use mathlib.Core.List.{List, [], _∷_}
-use lib.ListN.{length, getD, set}
+use lib.ListN.{length, set}
 use lib.Dec.{eqb}
 use borrow.Author.Tests.{eq-eqb, ne-eqb}
 use Rattle.labels.specs.Le.{leAt, leSet}
 use Rattle.labels.specs.Le.Laws.{leSet-length}
-use Rattle.rules.specs.Kernel.{Call, Verdict, refuse, call, answerOf, lastNumber}
+use Rattle.rules.specs.Kernel.{Call, call, answerOf, lastNumber}
 use Rattle.rules.specs.Answers.{oneOf, numbersOf}
 use Rattle.rules.specs.Laws.Bools.{bool-cases, or-i-r}
 use Rattle.rules.specs.Theorems.Refusals.{answer-own}
-use Rattle.tables.specs.Layout.{view, size, putT, Slot}
+use Rattle.tables.specs.Layout.{view, size, putT}
 use Rattle.tables.specs.Layout.Laws.{slot-put, slot-get}
 use Rattle.tables.specs.Layout.Only.{view-only}
 use Rattle.book.specs.Book.{nextOf, worldOf}
 use Rattle.book.specs.Enact.{movedOn}
-use Rattle.book.specs.Sound.{Sound}
 use Rattle.book.specs.Test.{areasB}
 use Rattle.calls.specs.declared.Answer.{Answer}
-use Rattle.calls.specs.Outcome.{verdictOn, outputLeft, numberOf, Done}
+use Rattle.calls.specs.Outcome.{verdictOn, numberOf, Done}
 use Rattle.calls.specs.Laws.Prelude.{book-long, book-sound, verdict-one}
 use Rattle.calls.specs.Theorems.Kept.{verdict-is}
 use Rattle.calls.specs.Theorems.OneRead.{answerFor, number-for, value-for}

@@ -1,22 +1,21 @@
 -- What two areas are after a history: good, and they spell the rules' world of that history.
 use Prim.Native.Nat.{ℕ}
 use native.Mathlib.Omega.{arith}
-use mathlib.Core.Bool.{Bool, true, false, cond, _&&_}
+use mathlib.Core.Bool.{Bool, true, false, cond}
 use mathlib.Core.Path.{_≡_, refl, sym, ap, ap₂, subst, _∙_}
 use mathlib.Core.List.{List, []}
 use lib.ListN.{length, length-replicate}
 use lib.Dec.{eqb}
 use borrow.Author.Tests.{eqb-true, eq-eqb}
-use Rattle.quotas.specs.Any.{both}
-use Rattle.rules.specs.Kernel.{World, Call, Verdict, call, after, startable, start, answerOf, valueOf, History, started, next, worldAfter}
+use Rattle.rules.specs.Kernel.{World, Call, Verdict, startable, answerOf, valueOf, History, started, next, worldAfter}
 use Rattle.rules.specs.Laws.Bools.{then-l}
 use Rattle.rules.specs.Histories.{firstWorld, WellStarted}
 use Rattle.rules.specs.Theorems.StaysSound.{start-is-sound}
-use Rattle.tables.specs.Layout.{View, view, size}
+use Rattle.tables.specs.Layout.{view, size}
 use Rattle.book.specs.Book.{worldOf}
-use Rattle.book.specs.Enact.{areaSize, startView, startArea}
+use Rattle.book.specs.Enact.{areaSize, startArea}
 use Rattle.book.specs.Sound.{Sound}
-use Rattle.book.specs.Test.{areasB, soundB}
+use Rattle.book.specs.Test.{areasB}
 use Rattle.book.specs.Laws.Clear.{Wiped, start-wiped}
 use Rattle.book.specs.Laws.Means.{sound-means}
 use Rattle.book.specs.Laws.Start as book

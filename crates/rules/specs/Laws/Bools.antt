@@ -1,6 +1,5 @@
 -- Small laws of tests.
-use Prim.Native.Nat.{ℕ}
-use mathlib.Core.Bool.{Bool, true, false, not, cond, _&&_, _||_, false≢true}
+use mathlib.Core.Bool.{Bool, true, false, cond, _&&_, _||_, false≢true}
 use mathlib.Core.Path.{_≡_, refl, sym, _∙_}
 
 pub and-l : (a b : Bool) → (a && b) ≡ true → a ≡ true

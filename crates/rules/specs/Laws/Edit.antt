@@ -1,6 +1,6 @@
 -- What an edit leaves of an object, and `alter` of every object.
 use Prim.Native.Nat.{ℕ}
-use mathlib.Core.Bool.{true, false, false≢true}
+use mathlib.Core.Bool.{false, false≢true}
 use mathlib.Core.Path.{_≡_, refl, sym, _∙_, ap}
 use Rattle.rules.specs.Kernel.{Obj, World, Edit, relabel, fix, requota, rewrite, edit, alter, apply}
 use Rattle.rules.specs.Laws.Put.{put-at}

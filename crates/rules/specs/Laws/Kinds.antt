@@ -1,6 +1,5 @@
 -- The tests of kinds: each is of one kind, so they exclude each other.
-use Prim.Native.Nat.{ℕ}
-use mathlib.Core.Bool.{Bool, true, false, not, _||_, false≢true}
+use mathlib.Core.Bool.{true, false, false≢true}
 use mathlib.Core.Path.{_≡_, refl, sym, subst}
 use Rattle.rules.specs.Kernel.{Kind, absent, thread, gate, segment, container, kindCode, isLive, isThread, isGate, isSegment, isContainer, hasClearance, nothing}
 use Rattle.rules.specs.Laws.Bools.{or-cases}

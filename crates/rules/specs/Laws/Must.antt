@@ -1,11 +1,11 @@
 -- Taking a verdict apart: a grant passed every test before it.
 use Prim.Native.Nat.{ℕ}
-use mathlib.Core.Bool.{Bool, true, false, cond, _&&_, false≢true}
-use mathlib.Core.Path.{_≡_, refl, sym, _∙_, ap, subst}
+use mathlib.Core.Bool.{Bool, true, false, cond, false≢true}
+use mathlib.Core.Path.{_≡_, refl, subst}
 use mathlib.Core.List.{List, [], _∷_, _++_}
 use lib.Dec.{leb}
 use native.Mathlib.Omega.{arith}
-use Rattle.rules.specs.Kernel.{World, Call, Change, Verdict, refuse, grant, must, tests, call, judge, isThread, goodArguments, lastNumber, Condition, holds, allHold, answerOf}
+use Rattle.rules.specs.Kernel.{World, Call, Change, Verdict, refuse, grant, must, tests, call, judge, isThread, goodArguments, lastNumber, Condition, holds, allHold}
 
 pub refuse-no-grant : (k v : ℕ) (b : List ℕ) (h : Change) → refuse k ≡ grant v b h → ⊥
 refuse-no-grant k v b h e = let z : _≡_ {A = ℕ} 0 1 = cc in omega arith

@@ -4,14 +4,12 @@ use native.Mathlib.Omega.{arith}
 use mathlib.Core.Bool.{Bool, true, false, cond, _&&_}
 use mathlib.Core.Path.{_≡_, refl, sym, _∙_, ap}
 use lib.Dec.{eqb}
-use lib.ListN.{replicate}
-use Rattle.labels.specs.Core.{plain, level1, level2}
 use borrow.Author.Tests.{eqb-true, eq-eqb, ne-eqb}
 use Rattle.quotas.specs.Any.{any-of}
-use Rattle.rules.specs.Kernel.{World, Obj, nothing, isLive, Edit, relabel, fix, requota, rewrite, edit, Change, keep, alter, create, cut, link, put, stays, kept, apply, Call, start, containerOf, threadOf, textSize, rootQuota, beginning, next, after}
+use Rattle.rules.specs.Kernel.{World, Obj, nothing, isLive, Edit, relabel, fix, requota, rewrite, edit, Change, keep, alter, create, cut, link, put, stays, kept, apply, Call, beginning, next, after}
 use Rattle.rules.specs.Sound.{Sound}
 use Rattle.rules.specs.Ledger.{Line, lineOf, grantedBy, granted, chargeBy, charge}
-use Rattle.rules.specs.Laws.Bools.{and-r, not-both, bool-cases, then-l, or-i-r}
+use Rattle.rules.specs.Laws.Bools.{not-both, bool-cases, then-l, or-i-r}
 use Rattle.rules.specs.Laws.Kinds.{nothing-dead}
 use Rattle.rules.specs.Laws.Put.{link-cases}
 use Rattle.rules.specs.Laws.Edit.{alter-field, alter-kind}

@@ -1,6 +1,6 @@
 -- Theorem 8: the numbers of calls, their values, and the ids and categories that they issue. That each call takes the next number, but for answer 2, is
 -- `number-taken` and `ended-world` in Refusals.
-use Prim.Native.Nat.{ℕ, zero, suc, _+_, _<_, _≤_}
+use Prim.Native.Nat.{ℕ, zero, suc, _<_, _≤_}
 use native.Mathlib.Decide.{ℕ-discrete, decLt}
 use native.Mathlib.Nat.{not-suc-le-zero, le-of-suc-le-suc}
 use native.Mathlib.Omega.{arith}
@@ -12,10 +12,9 @@ use lib.ListN.{length, getD}
 use lib.Dec.{eqb}
 use lib.IntN.{pos, negsuc}
 use borrow.Author.Tests.{eqb-true, eq-eqb}
-use Rattle.rules.specs.Kernel.{isLive, Obj, World, Change, apply, Call, createCategory, setLabel, setClearance, createContainer, createSegment, createGate, createThread, unreference, linkSegment, fixQuota, moveQuota, read, write, resize, enterGate, look, grant, call, answerOf, valueOf, after, start, History, beginning, next, worldAfter}
+use Rattle.rules.specs.Kernel.{isLive, Obj, World, Change, apply, Call, createCategory, setLabel, setClearance, createContainer, createSegment, createGate, createThread, unreference, linkSegment, fixQuota, moveQuota, read, write, resize, enterGate, look, grant, call, answerOf, valueOf, after, History, beginning, next, worldAfter}
 use Rattle.rules.specs.Issued.{callNumber, creates, issues, liveBelow, issued, Listed}
-use Rattle.rules.specs.Laws.Bools.{and-l, and-r, and-i, or-i-r, not-both}
-use Rattle.rules.specs.Sound.{Sound}
+use Rattle.rules.specs.Laws.Bools.{and-l, and-r, and-i, or-i-r}
 use Rattle.rules.specs.Histories.{firstWorld, WellStarted}
 use Rattle.rules.specs.Laws.Outcome.{outcome, call-outcome}
 use Rattle.rules.specs.Laws.Effects.{call-suits, apply-live, apply-made}

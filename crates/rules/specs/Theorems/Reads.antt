@@ -9,14 +9,14 @@ use lib.ListN.{length, getD, take, drop, length-drop}
 use lib.Seq.{length-take-le, getD-take, getD-drop}
 use lib.Dec.{eqb, leb}
 use borrow.Author.Tests.{eqb-true, eqb-false, eq-eqb, leb-true}
-use Rattle.rules.specs.Kernel.{isLive, Obj, World, rewrite, edit, Change, keep, alter, apply, Call, createCategory, setLabel, setClearance, createContainer, createSegment, createGate, createThread, unreference, linkSegment, fixQuota, moveQuota, read, write, resize, enterGate, look, grant, goodArguments, judge, call, answerOf, valueOf, outputOf, after, overwrite, resized, blockSize, maxBlock, start, History, beginning, next, worldAfter}
+use Rattle.rules.specs.Kernel.{isLive, Obj, World, rewrite, edit, Change, keep, alter, apply, Call, createCategory, setLabel, setClearance, createContainer, createSegment, createGate, createThread, unreference, linkSegment, fixQuota, moveQuota, read, write, resize, enterGate, look, grant, goodArguments, judge, call, answerOf, valueOf, outputOf, after, overwrite, resized, blockSize, maxBlock, History, beginning, next, worldAfter}
 use Rattle.rules.specs.Sound.{Sound}
 use Rattle.rules.specs.Histories.{firstWorld, WellStarted}
 use Rattle.rules.specs.Written.{leftBy, lastWritten, rewrites}
-use Rattle.rules.specs.Laws.Bools.{and-r, bool-cases, not-both}
-use Rattle.rules.specs.Laws.Kinds.{segment-live, nothing-dead}
+use Rattle.rules.specs.Laws.Bools.{and-r, bool-cases}
+use Rattle.rules.specs.Laws.Kinds.{segment-live}
 use Rattle.rules.specs.Laws.Must.{must-test, same-change, passed}
-use Rattle.rules.specs.Laws.Put.{put-at, put-same}
+use Rattle.rules.specs.Laws.Put.{put-same}
 use Rattle.rules.specs.Laws.Bytes.{overwrite-at, resized-at}
 use Rattle.rules.specs.Laws.Outcome.{outcome, call-outcome, access-outcome, access-segment}
 use Rattle.rules.specs.Laws.Effects.{makes, call-suits, apply-live, apply-keeps, apply-made}

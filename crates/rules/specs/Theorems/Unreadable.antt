@@ -1,11 +1,10 @@
 -- Existence does not leak: an absent container, one that is none, and one that the caller may not read are one answer.
 use Prim.Native.Nat.{ℕ}
-use mathlib.Core.Bool.{Bool, true, false, not, _&&_, false≢true, and-true}
+use mathlib.Core.Bool.{Bool, true, false, _&&_, false≢true, and-true}
 use mathlib.Core.Path.{_≡_, refl, sym, _∙_}
-use mathlib.Core.List.{List, [], _∷_}
 use lib.Dec.{leb}
-use lib.IntN.{ℤ, pos, negsuc}
-use Rattle.rules.specs.Kernel.{Obj, World, opens, entry, Verdict, refuse, must, make, move, access, judge, tests, call, answerOf, isThread, goodArguments, lastNumber, Call, createCategory, setLabel, setClearance, createContainer, createSegment, createGate, createThread, unreference, linkSegment, fixQuota, moveQuota, read, write, resize, enterGate, look}
+use lib.IntN.{pos, negsuc}
+use Rattle.rules.specs.Kernel.{Obj, World, opens, entry, Verdict, refuse, must, make, move, access, judge, tests, call, isThread, goodArguments, lastNumber, Call, createCategory, setLabel, setClearance, createContainer, createSegment, createGate, createThread, unreference, linkSegment, fixQuota, moveQuota, read, write, resize, enterGate, look}
 use Rattle.rules.specs.Named.{containersNamed, allOpen}
 
 module _ (w : World) (t : Obj) where

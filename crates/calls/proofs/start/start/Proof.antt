@@ -1,7 +1,6 @@
 use borrow.Author.Needs.{needs}
 use borrow.Author.Tests.{not-true, not-false, eqb-true, eqb-false}
-use native.Mathlib.Omega.{arith}
-use mathlib.Core.Path.{refl, sym, _∙_}
+use mathlib.Core.Path.{sym, _∙_}
 use Rattle.calls.specs.Laws.Started.{wrong-book, wrong-area, low-first, high-first, startable-by, made}
 use Rattle.calls.proofs.start.start.Statement.{statement}
 use Rattle.calls.proofs.start.start.Tie as tie
