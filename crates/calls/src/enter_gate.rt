@@ -7,8 +7,8 @@ ghost use Rattle.labels.specs.Core as label;
 ghost use Rattle.rules.specs.Kernel.{allHold, enterGate};
 ghost use Rattle.tables.specs.Layout.{view, size, rowCount};
 ghost use Rattle.book.specs.Book.{labelOf, clearanceOf};
-ghost use Rattle.calls.specs.EnterGate.{goodGate, gateConditions, ToEnter};
-ghost use Rattle.calls.specs.Outcome.{Done, Means, verdictOn, outputLeft};
+ghost use Rattle.calls.specs.EnterGate.{goodGate, gateConditions, EnterJudged};
+ghost use Rattle.calls.specs.Outcome.{Done, verdictOn, outputLeft};
 use super::Answer;
 use super::Begun;
 use super::Judged;
@@ -101,7 +101,7 @@ fn judge(
     lv: &[u8],
     n: usize,
 ) -> Judged
-    ensures { λ r. ⌜ Means (now (b .entry)) (now (area .entry)) (verdictOn (now (b .entry)) (now (area .entry)) caller (enterGate d g (now (lr .entry)) (now (cr .entry)) (now (lv .entry)) n)) (ToEnter (now (b .entry)) (now (area .entry)) caller d g (now (lr .entry)) (now (cr .entry)) (now (lv .entry)) n) r ⌝ }
+    ensures { λ r. ⌜ EnterJudged (now (b .entry)) (now (area .entry)) caller d g (now (lr .entry)) (now (cr .entry)) (now (lv .entry)) n r ⌝ }
 {
     let t = match begin(b, area, caller) {
         Begun::By(t) => t,
