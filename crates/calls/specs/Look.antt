@@ -12,7 +12,8 @@ use Rattle.tables.specs.Layout.{View, view, rowCount}
 use Rattle.book.specs.declared.find.Entry.{Entry}
 use Rattle.book.specs.declared.find.Entry.the-variants as place
 use Rattle.book.specs.Book.{codeOf, labelOf, descriptionOf, onFound}
-use Rattle.calls.specs.Outcome.{verdictOn}
+use Rattle.calls.specs.declared.Judged.{Judged}
+use Rattle.calls.specs.Outcome.{verdictOn, Means}
 use Rattle.calls.specs.Lookup.{openContainer, openEntry}
 
 -- RULES 8.16: "5 unless D is a container that T may read, and O is D itself or is linked in D; no other call takes (D, D) for an entry."
@@ -41,3 +42,7 @@ pub record ToLook (b area : List ℕ) (c d o n t r l : ℕ) : Type 0 where
   pub caller-low : t < rowCount
   pub object-low : r < rowCount
   pub label-fits : labelOf (view b) r .default < 256
+
+-- what its judging answers
+abbrev pub LookJudged : List ℕ → List ℕ → ℕ → ℕ → ℕ → ℕ → Judged → Type 0
+LookJudged b area c d o n r = Means b area (verdictOn b area c (look d o n)) (ToLook b area c d o n) r

@@ -9,13 +9,18 @@ use Rattle.tables.specs.Layout.{View, view}
 use Rattle.book.specs.Book.{blockAt, onFound, rowOf}
 use Rattle.calls.specs.declared.read.Located.{Located}
 use Rattle.calls.specs.declared.read.Located.the-variants.{At, Off}
-use Rattle.calls.specs.Outcome.{verdictOn, Left}
+use Rattle.calls.specs.declared.Judged.{Judged}
+use Rattle.calls.specs.Outcome.{verdictOn, Left, Means}
 use Rattle.calls.specs.Part.{Lies}
 
 -- n bytes from p on are granted to be read
 pub record ToRead (b area : List ℕ) (c d s k f n p j l : ℕ) : Type 0 where
   pub lies : Lies b s k f n p
   pub granted : verdictOn b area c (read d s k f n) ≡ grant 0 (take n (drop p area)) keep
+
+-- what its judging answers
+abbrev pub ReadJudged : List ℕ → List ℕ → ℕ → ℕ → ℕ → ℕ → ℕ → ℕ → Judged → Type 0
+ReadJudged b area c d s k f n r = Means b area (verdictOn b area c (read d s k f n)) (ToRead b area c d s k f n) r
 
 -- ---- as numbers
 

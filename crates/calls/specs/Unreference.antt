@@ -6,7 +6,8 @@ use Rattle.rules.specs.Kernel.{grant, unreference, cut}
 use Rattle.tables.specs.Layout.{view}
 use Rattle.book.specs.Book.{idOf, fromOf, toOf}
 use Rattle.book.specs.Sound.{On}
-use Rattle.calls.specs.Outcome.{verdictOn}
+use Rattle.calls.specs.declared.Judged.{Judged}
+use Rattle.calls.specs.Outcome.{verdictOn, Means}
 
 -- link l is live, leads from d to o, and is granted to be cut
 pub record ToCut (b area : List ℕ) (c d o l j k : ℕ) : Type 0 where
@@ -14,3 +15,7 @@ pub record ToCut (b area : List ℕ) (c d o l j k : ℕ) : Type 0 where
   pub link-on : On (view b) l
   pub from-id : idOf (view b) (fromOf (view b) l) ≡ d
   pub to-id : idOf (view b) (toOf (view b) l) ≡ o
+
+-- what its judging answers
+abbrev pub CutJudged : List ℕ → List ℕ → ℕ → ℕ → ℕ → Judged → Type 0
+CutJudged b area c d o r = Means b area (verdictOn b area c (unreference d o)) (ToCut b area c d o) r

@@ -3,12 +3,10 @@ ghost use mathlib.Core.Path.{_≡_};
 ghost use Prim.Native.Nat.{_<_};
 ghost use lib.ListN.{length};
 ghost use Rattle.labels.specs.Core.{labelSize};
-ghost use Rattle.labels.specs.Core as label;
 ghost use Rattle.rules.specs.Kernel.{allHold, enterGate};
 ghost use Rattle.tables.specs.Layout.{view, size, rowCount};
-ghost use Rattle.book.specs.Book.{labelOf, clearanceOf};
-ghost use Rattle.calls.specs.EnterGate.{goodGate, gateConditions, ToEnter};
-ghost use Rattle.calls.specs.Outcome.{Done, Means, verdictOn, outputLeft};
+ghost use Rattle.calls.specs.EnterGate.{goodGate, gateConditions, asksAt, EnterJudged};
+ghost use Rattle.calls.specs.Outcome.{Done, verdictOn, outputLeft};
 use super::Answer;
 use super::Begun;
 use super::Judged;
@@ -78,7 +76,7 @@ fn allowed(
 // The same of the thread at row t, the gate at row r and the bytes lent.
 fn conditions(b: &[u8], t: usize, r: usize, lr: &[u8], cr: &[u8], lv: &[u8]) -> bool
     requires { ⌜ (length (now b) ≡ size) × (t < rowCount) × (r < rowCount) × (length (now lr) ≡ labelSize) × (length (now cr) ≡ labelSize) × (length (now lv) ≡ labelSize) ⌝ }
-    ensures { λ x. ⌜ x ≡ allHold (gateConditions (labelOf (view (now (b .entry))) t) (clearanceOf (view (now (b .entry))) t) (labelOf (view (now (b .entry))) r) (clearanceOf (view (now (b .entry))) r) (label.labelOf (now (lr .entry))) (label.labelOf (now (cr .entry))) (label.labelOf (now (lv .entry)))) ⌝ }
+    ensures { λ x. ⌜ x ≡ allHold (asksAt (view (now (b .entry))) t r (now (lr .entry)) (now (cr .entry)) (now (lv .entry))) ⌝ }
 {
     let mine = label_of(b, t);
     let cleared = clearance_of(b, t);
@@ -101,7 +99,7 @@ fn judge(
     lv: &[u8],
     n: usize,
 ) -> Judged
-    ensures { λ r. ⌜ Means (now (b .entry)) (now (area .entry)) (verdictOn (now (b .entry)) (now (area .entry)) caller (enterGate d g (now (lr .entry)) (now (cr .entry)) (now (lv .entry)) n)) (ToEnter (now (b .entry)) (now (area .entry)) caller d g (now (lr .entry)) (now (cr .entry)) (now (lv .entry)) n) r ⌝ }
+    ensures { λ r. ⌜ EnterJudged (now (b .entry)) (now (area .entry)) caller d g (now (lr .entry)) (now (cr .entry)) (now (lv .entry)) n r ⌝ }
 {
     let t = match begin(b, area, caller) {
         Begun::By(t) => t,

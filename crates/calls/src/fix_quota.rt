@@ -1,8 +1,8 @@
 // Call 10: a segment's quota fixed.
 ghost use mathlib.Core.Path.{_≡_};
 ghost use mathlib.Core.List.{[], _∷_, _++_};
-ghost use Rattle.calls.specs.Outcome.{Done, Means, verdictOn};
-ghost use Rattle.calls.specs.FixQuota.{ToFix};
+ghost use Rattle.calls.specs.Outcome.{Done};
+ghost use Rattle.calls.specs.FixQuota.{FixJudged};
 ghost use Rattle.rules.specs.Kernel.{allHold, flow, writing, fixQuota};
 use super::Answer;
 use super::Begun;
@@ -30,7 +30,7 @@ fn allowed(mine: Label, holder: Label, theirs: Label) -> bool
 }
 
 fn judge(b: &[u8], area: &[u8], caller: u64, d: u64, o: u64) -> Judged
-    ensures { λ r. ⌜ Means (now (b .entry)) (now (area .entry)) (verdictOn (now (b .entry)) (now (area .entry)) caller (fixQuota d o)) (ToFix (now (b .entry)) (now (area .entry)) caller d o) r ⌝ }
+    ensures { λ r. ⌜ FixJudged (now (b .entry)) (now (area .entry)) caller d o r ⌝ }
 {
     let t = match begin(b, area, caller) {
         Begun::By(t) => t,

@@ -1,8 +1,8 @@
 // Call 9: a segment linked in one container more.
 ghost use mathlib.Core.Path.{_≡_};
 ghost use mathlib.Core.List.{[], _∷_, _++_};
-ghost use Rattle.calls.specs.Outcome.{Done, Means, verdictOn};
-ghost use Rattle.calls.specs.LinkSegment.{ToLink};
+ghost use Rattle.calls.specs.Outcome.{Done};
+ghost use Rattle.calls.specs.LinkSegment.{LinkJudged};
 ghost use Rattle.rules.specs.Kernel.{allHold, flow, writing, linkSegment};
 use super::Answer;
 use super::Begun;
@@ -37,7 +37,7 @@ fn allowed(mine: Label, clear: Label, holder: Label, theirs: Label) -> bool
 }
 
 fn judge(b: &[u8], area: &[u8], caller: u64, d1: u64, o: u64, d: u64) -> Judged
-    ensures { λ r. ⌜ Means (now (b .entry)) (now (area .entry)) (verdictOn (now (b .entry)) (now (area .entry)) caller (linkSegment d1 o d)) (ToLink (now (b .entry)) (now (area .entry)) caller d1 o d) r ⌝ }
+    ensures { λ r. ⌜ LinkJudged (now (b .entry)) (now (area .entry)) caller d1 o d r ⌝ }
 {
     let t = match begin(b, area, caller) {
         Begun::By(t) => t,

@@ -9,8 +9,8 @@ ghost use Rattle.labels.specs.Core.{wordCount};
 ghost use Rattle.rules.specs.Kernel.{look, lookSize};
 ghost use Rattle.tables.specs.Layout.{view, size, rowCount};
 ghost use Rattle.book.specs.Book.{labelOf};
-ghost use Rattle.calls.specs.Look.{openLook, shownB, shownBytes, hiddenBytes, lookAt, ToLook};
-ghost use Rattle.calls.specs.Outcome.{Done, Means, verdictOn, outputLeft};
+ghost use Rattle.calls.specs.Look.{openLook, shownB, shownBytes, hiddenBytes, lookAt, LookJudged};
+ghost use Rattle.calls.specs.Outcome.{Done, verdictOn, outputLeft};
 use super::Answer;
 use super::Begun;
 use super::Judged;
@@ -53,7 +53,7 @@ fn open_look(b: &[u8], t: usize, d: u64, o: u64) -> Entry
 }
 
 fn judge(b: &[u8], area: &[u8], caller: u64, d: u64, o: u64, n: usize) -> Judged
-    ensures { λ r. ⌜ Means (now (b .entry)) (now (area .entry)) (verdictOn (now (b .entry)) (now (area .entry)) caller (look d o n)) (ToLook (now (b .entry)) (now (area .entry)) caller d o n) r ⌝ }
+    ensures { λ r. ⌜ LookJudged (now (b .entry)) (now (area .entry)) caller d o n r ⌝ }
 {
     let t = match begin(b, area, caller) {
         Begun::By(t) => t,

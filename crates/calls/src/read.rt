@@ -1,7 +1,5 @@
 // Call 12: part of a segment's block read. What is handed back is that part of the data area itself.
-ghost use Rattle.rules.specs.Kernel as kernel;
-ghost use Rattle.calls.specs.Outcome.{Means, verdictOn};
-ghost use Rattle.calls.specs.Read.{ToRead, LocatedAs, Shown};
+ghost use Rattle.calls.specs.Read.{LocatedAs, Shown, ReadJudged};
 use super::Begun;
 use super::Judged;
 use super::begin::begin;
@@ -27,7 +25,7 @@ fn judge(
     from: u64,
     count: u64,
 ) -> Judged
-    ensures { λ r. ⌜ Means (now (b .entry)) (now (area .entry)) (verdictOn (now (b .entry)) (now (area .entry)) caller (kernel.read d s k from count)) (ToRead (now (b .entry)) (now (area .entry)) caller d s k from count) r ⌝ }
+    ensures { λ r. ⌜ ReadJudged (now (b .entry)) (now (area .entry)) caller d s k from count r ⌝ }
 {
     let t = match begin(b, area, caller) {
         Begun::By(t) => t,

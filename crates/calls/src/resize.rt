@@ -1,7 +1,7 @@
 // Call 14: a segment made longer or shorter.
 ghost use Rattle.rules.specs.Kernel as kernel;
-ghost use Rattle.calls.specs.Outcome.{Done, Means, verdictOn};
-ghost use Rattle.calls.specs.Resize.{ToResize};
+ghost use Rattle.calls.specs.Outcome.{Done};
+ghost use Rattle.calls.specs.Resize.{ResizeJudged};
 use super::Answer;
 use super::Begun;
 use super::Judged;
@@ -20,7 +20,7 @@ use labels::compare::may_write;
 const MAX_LENGTH: u64 = 16256;
 
 fn judge(b: &[u8], area: &[u8], caller: u64, d: u64, s: u64, length: u64) -> Judged
-    ensures { λ r. ⌜ Means (now (b .entry)) (now (area .entry)) (verdictOn (now (b .entry)) (now (area .entry)) caller (kernel.resize d s length)) (ToResize (now (b .entry)) (now (area .entry)) caller d s length) r ⌝ }
+    ensures { λ r. ⌜ ResizeJudged (now (b .entry)) (now (area .entry)) caller d s length r ⌝ }
 {
     let t = match begin(b, area, caller) {
         Begun::By(t) => t,

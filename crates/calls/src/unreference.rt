@@ -1,6 +1,6 @@
 // Call 8: a link cut with all that hangs on it.
-ghost use Rattle.calls.specs.Outcome.{Done, Means, verdictOn};
-ghost use Rattle.calls.specs.Unreference.{ToCut};
+ghost use Rattle.calls.specs.Outcome.{Done};
+ghost use Rattle.calls.specs.Unreference.{CutJudged};
 ghost use Rattle.rules.specs.Kernel as kernel;
 use super::Answer;
 use super::Begun;
@@ -14,7 +14,7 @@ use book::find::label_of;
 use labels::compare::may_write;
 
 fn judge(b: &[u8], area: &[u8], caller: u64, d: u64, o: u64) -> Judged
-    ensures { λ r. ⌜ Means (now (b .entry)) (now (area .entry)) (verdictOn (now (b .entry)) (now (area .entry)) caller (kernel.unreference d o)) (ToCut (now (b .entry)) (now (area .entry)) caller d o) r ⌝ }
+    ensures { λ r. ⌜ CutJudged (now (b .entry)) (now (area .entry)) caller d o r ⌝ }
 {
     let t = match begin(b, area, caller) {
         Begun::By(t) => t,

@@ -1,7 +1,7 @@
 // Call 13: bytes written into part of a segment's block.
 ghost use Rattle.rules.specs.Kernel as kernel;
-ghost use Rattle.calls.specs.Outcome.{Done, Means, verdictOn};
-ghost use Rattle.calls.specs.Write.{ToWrite};
+ghost use Rattle.calls.specs.Outcome.{Done};
+ghost use Rattle.calls.specs.Write.{WriteJudged};
 use super::Answer;
 use super::Begun;
 use super::Judged;
@@ -24,7 +24,7 @@ fn judge(
     count: u64,
     bytes: &[u8],
 ) -> Judged
-    ensures { λ r. ⌜ Means (now (b .entry)) (now (area .entry)) (verdictOn (now (b .entry)) (now (area .entry)) caller (kernel.write d s k from count (now (bytes .entry)))) (ToWrite (now (b .entry)) (now (area .entry)) caller d s k from count (now (bytes .entry))) r ⌝ }
+    ensures { λ r. ⌜ WriteJudged (now (b .entry)) (now (area .entry)) caller d s k from count (now (bytes .entry)) r ⌝ }
 {
     let t = match begin(b, area, caller) {
         Begun::By(t) => t,

@@ -1,6 +1,6 @@
--- Request W5, "Tainted work must not show", as statements about the two lent areas; Theorems has the proofs,
+-- W5, "Tainted work must not show" (RULES 12), as statements about the two lent areas; Theorems has the proofs,
 -- and docs/DEMANDS.md explains each word. What is tainted, and which start is meant, is said in `tainted`. A
--- world has no positions, so "row, link and block positions are excepted".
+-- world has no positions. RULES 12.6: "Which rows, links and blocks are used may differ, .."
 use Prim.Native.Nat.{ℕ, _<_}
 use mathlib.Core.Bool.{true}
 use mathlib.Core.Path.{_≡_}
@@ -11,10 +11,10 @@ use Rattle.book.specs.Test.{areasB}
 use Rattle.flytewood.specs.Called.{Called}
 use Rattle.histories.specs.Areas.{world, After}
 
--- "Take two histories .., with the same start, the same caller at each number and the same calls .. from
--- callers whose level in one category v is then at most 1. .. Callers above it may call differently." Both
--- begin on good areas that spell the world w, wherever its rows, links and blocks lie in them. At each turn
--- the caller c calls x in the one and y in the other, and each call met the contract of the exported functions.
+-- RULES 12.3: "Two histories go from that start. At each number the same caller calls in both, and if it is
+-- untainted it makes the same call in both. Other callers may make different calls." Both begin on good areas that
+-- spell the world w, wherever its rows, links and blocks lie in them. At each turn the caller c calls x in the one
+-- and y in the other, and each call met the contract of the exported functions.
 pub data AlikeRuns (v : ℕ) (w : World) : List ℕ → List ℕ → List ℕ → List ℕ → Type 0 where
   same-start : (b₁ area₁ b₂ area₂ : List ℕ) → areasB b₁ area₁ ≡ true → areasB b₂ area₂ ≡ true → world b₁ area₁ ≡ w → world b₂ area₂ ≡ w
       → AlikeRuns v w b₁ area₁ b₂ area₂
@@ -24,8 +24,9 @@ pub data AlikeRuns (v : ℕ) (w : World) : List ℕ → List ℕ → List ℕ �
       → (lent₂ : List ℕ) (answer₂ value₂ : ℕ) (b₂′ area₂′ out₂ : List ℕ) → Called b₂ area₂ c y lent₂ answer₂ value₂ b₂′ area₂′ out₂
       → AlikeRuns v w b₁′ area₁′ b₂′ area₂′
 
--- "The others get the same answers, values and bytes": a call x by an untainted caller c, made on the areas of
--- both with the same bytes lent for its output. For call 12 the bytes are the part that is handed out.
+-- RULES 12.4: "Then each call of an untainted caller gets the same answer, value and output in both." A call x by
+-- an untainted caller c, made on the areas of both with the same bytes lent for its output. For call 12 the output is
+-- the part that is handed out.
 abbrev pub SameTold : ℕ → List ℕ → List ℕ → List ℕ → List ℕ → Type 0
 SameTold v b₁ area₁ b₂ area₂ =
     (c : ℕ) (x : Call) (lent : List ℕ) → untaintedCaller v (world b₁ area₁ .obj c) ≡ true
@@ -40,7 +41,7 @@ TaintedWorkUnseen =
     (v : ℕ) (w : World) → UntaintedStart v w → (b₁ area₁ b₂ area₂ : List ℕ) → AlikeRuns v w b₁ area₁ b₂ area₂
     → SameTold v b₁ area₁ b₂ area₂ × SameUntainted v (world b₁ area₁) (world b₂ area₂)
 
--- "without answer 1": in such runs no call answers 1, whoever makes it.
+-- RULES 12.3: "No call answers 1." In such runs none does, whoever makes it.
 abbrev pub NotAnswered1 : List ℕ → List ℕ → Type 0
 NotAnswered1 b area =
     (c : ℕ) (x : Call) (out : List ℕ) (answer value : ℕ) (b′ area′ out′ : List ℕ) → Called b area c x out answer value b′ area′ out′ → answer ≡ 1 → ⊥

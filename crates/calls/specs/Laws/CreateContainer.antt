@@ -13,7 +13,8 @@ use Rattle.labels.specs.Core.{labelSize}
 use Rattle.labels.specs.Core as core
 use Rattle.labels.specs.Core.Bytes.{labelOf-length}
 use Rattle.labels.specs.Core.Formed.{and-l, and-r}
-use Rattle.rules.specs.Kernel.{containerCode, maskWidth, kindCode, allHold, flow, judge, goodArguments, goodLabel, goodText, maxMask, maxQuota, textSize, orDefault, containerDefault, containerOf, createContainer}
+use Rattle.rules.specs.Kernel.{containerCode, maskWidth, kindCode, allHold, flow, judge, goodArguments, goodLabel}
+use Rattle.rules.specs.Kernel.{goodText, maxMask, maxQuota, textSize, orDefault, containerDefault, containerOf, createContainer}
 use Rattle.tables.specs.Layout.{view}
 use Rattle.book.specs.declared.Found.the-variants.{At, Nothing}
 use Rattle.book.specs.declared.make.NewRow.{NewRow}

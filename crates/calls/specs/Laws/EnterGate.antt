@@ -11,15 +11,16 @@ use Rattle.labels.specs.declared.Rule.the-variants.{FloorFlows, FlowsJoin}
 use Rattle.labels.specs.Core.{compareB, flows}
 use Rattle.labels.specs.Core as label
 use Rattle.labels.specs.Core.Formed.{and-l, and-r}
-use Rattle.rules.specs.Kernel.{gateCode, World, Obj, Condition, refuse, grant, must, judge, entry, isGate, allHold, flow, floorFlow, flowJoin, enterGate, alter, relabel, goodLabel, goodArguments, textSize}
-use Rattle.tables.specs.Layout.{View, view}
+use Rattle.rules.specs.Kernel.{gateCode, World, Obj, Condition, refuse, grant, must, judge, entry, isGate}
+use Rattle.rules.specs.Kernel.{allHold, flow, floorFlow, flowJoin, enterGate, alter, relabel, goodLabel, goodArguments, textSize}
+use Rattle.tables.specs.Layout.{view}
 use Rattle.book.specs.declared.find.Entry.the-variants as place
 use Rattle.book.specs.Book.{nextOf, codeOf, labelOf, clearanceOf, worldOf}
 use Rattle.book.specs.Laws.Tie.{object-clearance, object-gate, object-entry, object-closure}
 use Rattle.calls.specs.Outcome.{verdictOn}
 use Rattle.calls.specs.Begun.{Caller}
 use Rattle.calls.specs.Lookup.{openEntry}
-use Rattle.calls.specs.EnterGate.{goodGate, gateConditions, ToEnter}
+use Rattle.calls.specs.EnterGate.{goodGate, gateConditions, asksAt, ToEnter}
 use Rattle.calls.specs.Laws.AllHold.{all-failed, all-passed, all-last, flow-holds, floor-flow-holds, flow-join-holds}
 use Rattle.calls.specs.Laws.Arguments.{good-long, good-default}
 use Rattle.calls.specs.Laws.Begun.{caller-four, caller-judged, caller-label, caller-clearance, caller-low}
@@ -119,14 +120,10 @@ module _ (mine cleared gate guard taken limit shown : Label) where
 
 -- ---- the verdict
 
--- what is asked of thread t and gate g, and the same of their rows
+-- what is asked of thread t and gate g
 abbrev asks : World → Obj → ℕ → List ℕ → List ℕ → List ℕ → List Condition
 asks w t g lr cr lv =
     gateConditions (t .label) (t .clearance) ((w .obj g) .label) ((w .obj g) .clearance) (label.labelOf lr) (label.labelOf cr) (label.labelOf lv)
-
-abbrev asksAt : View → ℕ → ℕ → List ℕ → List ℕ → List ℕ → List Condition
-asksAt v t r lr cr lv =
-    gateConditions (labelOf v t) (clearanceOf v t) (labelOf v r) (clearanceOf v r) (label.labelOf lr) (label.labelOf cr) (label.labelOf lv)
 
 module _ (b area : List ℕ) (c t d g : ℕ) (lr cr lv : List ℕ) (n : ℕ) (by : Caller b area c t) where
   -- malformed arguments: 4
@@ -161,7 +158,10 @@ module _ (b area : List ℕ) (c t d g : ℕ) (lr cr lv : List ℕ) (n : ℕ) (by
 
         asked : allHold (asks (worldOf (view b) area) (worldOf (view b) area .obj c) g lr cr lv)
             ≡ allHold (asksAt (view b) t r lr cr lv)
-        asked = λ i. allHold (gateConditions (caller-label b area c t by i) (caller-clearance b area c t by i) (its-label b area c t d g by k r l e i) (its-clearance i) (label.labelOf lr) (label.labelOf cr) (label.labelOf lv))
+        asked = λ i.
+            allHold
+            (gateConditions (caller-label b area c t by i) (caller-clearance b area c t by i) (its-label b area c t d g by k r l e i) (its-clearance i)
+            (label.labelOf lr) (label.labelOf cr) (label.labelOf lv))
 
         from-seven : verdictOn b area c (enterGate d g lr cr lv n)
             ≡ must (allHold (asks (worldOf (view b) area) (worldOf (view b) area .obj c) g lr cr lv)) 7

@@ -28,7 +28,8 @@ use Rattle.calls.specs.Outcome.{verdictOn, Ready, Done}
 use Rattle.calls.specs.Begun.{Caller}
 use Rattle.calls.specs.Laws.Amount.{bad-argument, good-argument, moving, amount-judged, quota-small}
 use Rattle.calls.specs.Laws.Begun.{caller-judged, caller-four, caller-label, caller-clearance, sound-by-caller}
-use Rattle.calls.specs.Laws.Entry.{no-entry, is-entry, container-there, container-named, object-there, object-below, object-named, object-found, object-is, is-segment, is-container, container-label, its-label, its-quota}
+use Rattle.calls.specs.Laws.Entry.{no-entry, is-entry, container-there, container-named, object-there, object-below, object-named}
+use Rattle.calls.specs.Laws.Entry.{object-found, object-is, is-segment, is-container, container-label, its-label, its-quota}
 use Rattle.calls.specs.Laws.Lookup.{fits-at}
 use Rattle.calls.specs.Laws.Prelude.{must-passed, must-failed, done-granted}
 
@@ -111,7 +112,10 @@ module _ (b area : List ℕ) (c t d o : ℕ) (by : Caller b area c t) (z : ℤ) 
             ∷ moreFor u ((worldOf (view b) area .obj c) .label) ((worldOf (view b) area .obj o) .label)))
             ≡ allHold (writing x y ++ (flow x q ∷ flow q p ∷ moreFor u x q))
         labels-are =
-            ap₂ (λ m w. allHold (writing m ((worldOf (view b) area .obj d) .label) ++ (flow m ((worldOf (view b) area .obj o) .label) ∷ flow ((worldOf (view b) area .obj o) .label) w ∷ moreFor u m ((worldOf (view b) area .obj o) .label))))
+            ap₂ (λ m w.
+            allHold
+            (writing m ((worldOf (view b) area .obj d) .label)
+            ++ (flow m ((worldOf (view b) area .obj o) .label) ∷ flow ((worldOf (view b) area .obj o) .label) w ∷ moreFor u m ((worldOf (view b) area .obj o) .label))))
             (caller-label b area c t by ∙ sym ex) (caller-clearance b area c t by ∙ sym ep)
             ∙ ap₂ (λ m w. allHold (writing x m ++ (flow x w ∷ flow w p ∷ moreFor u x w)))
             (container-label b area c t d o by k r l e ∙ sym ey) (its-label b area c t d o by k r l e ∙ sym eq)
