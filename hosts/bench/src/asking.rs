@@ -1,8 +1,8 @@
 //! One call of either kernel, with everything it is lent made beforehand.
 
 use flytewood_bytekernel as bytes;
-use flytewood_hosts::model::Call;
 use flytewood_kernel::{Answer, Kernel, AREA_LEN};
+use flytewood_model::model::Call;
 
 /// The longest output: call 16's.
 const LONGEST_OUTPUT: usize = 104;

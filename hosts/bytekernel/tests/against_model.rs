@@ -1,12 +1,12 @@
 //! The byte kernel and the model answer alike, and the book spells the model's world after every call.
 
 use flytewood_bytekernel as bytes;
-use flytewood_hosts::book::*;
-use flytewood_hosts::drawn::Drawer;
-use flytewood_hosts::histories;
-use flytewood_hosts::model::{Body, Call, Kind, Object, Outcome, World, GRANTED};
-use flytewood_hosts::random::Random;
-use flytewood_hosts::steered::steered;
+use flytewood_model::book::*;
+use flytewood_model::drawn::Drawer;
+use flytewood_model::histories;
+use flytewood_model::model::{Body, Call, Kind, Object, Outcome, World, GRANTED};
+use flytewood_model::random::Random;
+use flytewood_model::steered::steered;
 use std::collections::{BTreeMap, BTreeSet};
 
 const AREA_LEN: usize = 16_384;

@@ -2,8 +2,8 @@
 
 use crate::arguments::{output_len, slices};
 use crate::guarded::Guarded;
-use flytewood_hosts::model::Call;
 use flytewood_kernel::{Answer, Kernel};
+use flytewood_model::model::Call;
 
 /// What stands in an output before the call.
 pub const UNTOUCHED: u8 = 0xA5;

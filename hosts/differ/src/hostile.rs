@@ -7,12 +7,12 @@ use crate::guarded::Guarded;
 use crate::mixture::{draw, EXTREMES};
 use crate::run::{Run, Tally};
 use crate::showcase;
-use flytewood_hosts::book::books::any_book;
-use flytewood_hosts::book::*;
-use flytewood_hosts::coverage::{count_one, Seen};
-use flytewood_hosts::model::{Call, World, GRANTED, LAST_FIRST_NUMBER, MALFORMED};
-use flytewood_hosts::random::Random;
 use flytewood_kernel::{Kernel, AREA_LEN};
+use flytewood_model::book::books::any_book;
+use flytewood_model::book::*;
+use flytewood_model::coverage::{count_one, Seen};
+use flytewood_model::model::{Call, World, GRANTED, LAST_FIRST_NUMBER, MALFORMED};
+use flytewood_model::random::Random;
 
 /// What came of the damaged books.
 #[derive(Default)]
