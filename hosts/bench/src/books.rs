@@ -96,8 +96,8 @@ pub fn callers_clearance() -> Label {
 fn granted(areas: &mut Areas, call: &Call) -> u64 {
     let mut given = Given::nothing();
     proved(areas, CALLER, call, &mut given);
-    assert_eq!(given.answer, GRANTED, "building: {:?}", call);
-    given.value
+    assert_eq!(given.reply.answer, GRANTED, "building: {:?}", call);
+    given.reply.value
 }
 
 /// Just after Start.
