@@ -66,9 +66,3 @@ compile() {
 }
 
 run() { "${runner[@]}" "$@"; }
-
-# rust_for_x86_64 WORD..: rustc where cargo would build for the machine itself.
-rust_for_x86_64() {
-    "$rustc" --edition 2021 --target x86_64-unknown-linux-gnu -C linker=x86_64-linux-gnu-gcc \
-        -C target-feature=+crt-static -C relocation-model=static "$@"
-}

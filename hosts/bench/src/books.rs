@@ -2,9 +2,9 @@
 //! in it, three groups in a chain, and what is over in the root.
 
 use crate::asking::{proved, Areas, Given};
-use flytewood_hosts::ask;
-use flytewood_hosts::labels::*;
-use flytewood_hosts::model::{Call, Kind, GRANTED};
+use flytewood_model::ask;
+use flytewood_model::labels::*;
+use flytewood_model::model::{Call, Kind, GRANTED};
 
 pub const ROOT: u64 = 100;
 pub const CALLER: u64 = ROOT + 1;
@@ -96,8 +96,8 @@ pub fn callers_clearance() -> Label {
 fn granted(areas: &mut Areas, call: &Call) -> u64 {
     let mut given = Given::nothing();
     proved(areas, CALLER, call, &mut given);
-    assert_eq!(given.answer, GRANTED, "building: {:?}", call);
-    given.value
+    assert_eq!(given.reply.answer, GRANTED, "building: {:?}", call);
+    given.reply.value
 }
 
 /// Just after Start.

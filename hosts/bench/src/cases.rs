@@ -2,8 +2,8 @@
 
 use crate::asking::Areas;
 use crate::books::*;
-use flytewood_hosts::ask;
-use flytewood_hosts::model::{Call, BEYOND_THE_LENGTH, GRANTED, NOT_ENOUGH_SPARE};
+use flytewood_model::ask;
+use flytewood_model::model::{Call, BEYOND_THE_LENGTH, GRANTED, NOT_ENOUGH_SPARE};
 
 pub const SIZES: [usize; 4] = [2, 16, 64, 256];
 

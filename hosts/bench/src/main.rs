@@ -13,8 +13,8 @@ use asking::{proved, written_in_rust, Areas, Asked, Given};
 use books::CALLER;
 use cases::{cases, Case, SIZES};
 use clock::Clock;
-use flytewood_hosts::ask;
-use flytewood_hosts::model::Call;
+use flytewood_model::ask;
+use flytewood_model::model::Call;
 use report::{Depth, Line};
 use std::env;
 use std::io;
@@ -84,7 +84,7 @@ fn same_in_both(case: &Case) {
         given
     });
     assert_eq!(given[0], given[1], "{} at {} objects", case.name, case.objects);
-    assert_eq!(given[0].answer, case.answer, "{} at {} objects", case.name, case.objects);
+    assert_eq!(given[0].reply.answer, case.answer, "{} at {} objects", case.name, case.objects);
 }
 
 /// The stack that each call uses on the largest book, and call 8 on containers as deep as can be.
@@ -111,6 +111,6 @@ fn repeat(kernel: &str, name: &str, size: usize, times: usize) -> bool {
         areas.copy_from(&case.areas);
         kernel(&mut areas, CALLER, &case.call, &mut given);
     }
-    println!("{}, {} objects, {} times: answer {}", name, case.objects, times, given.answer);
+    println!("{}, {} objects, {} times: answer {}", name, case.objects, times, given.reply.answer);
     true
 }

@@ -2,7 +2,7 @@
 
 use crate::asking::{Areas, Asked, Given};
 use crate::books::CALLER;
-use flytewood_hosts::model::Call;
+use flytewood_model::model::Call;
 use std::thread;
 
 const STACK: usize = 4 << 20;

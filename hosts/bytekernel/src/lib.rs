@@ -4,6 +4,7 @@
 //! from page 01, the readings of it in docs/DECISIONS.md and docs/BOOK.md, before docs/RULES.md was there;
 //! comments quote docs/RULES.md by number.
 
+mod call;
 mod creates;
 mod entries;
 mod gates;
@@ -15,6 +16,7 @@ mod sound;
 mod start;
 mod threads;
 
+pub use call::call;
 pub use creates::{create_container, create_gate, create_segment, create_thread};
 pub use gates::{enter_gate, look};
 pub use quotas::{fix_quota, link_segment, move_quota, unreference};

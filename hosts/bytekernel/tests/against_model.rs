@@ -1,12 +1,12 @@
 //! The byte kernel and the model answer alike, and the book spells the model's world after every call.
 
 use flytewood_bytekernel as bytes;
-use flytewood_hosts::book::*;
-use flytewood_hosts::drawn::Drawer;
-use flytewood_hosts::histories;
-use flytewood_hosts::model::{Body, Call, Kind, Object, Outcome, World, GRANTED};
-use flytewood_hosts::random::Random;
-use flytewood_hosts::steered::steered;
+use flytewood_model::book::*;
+use flytewood_model::drawn::Drawer;
+use flytewood_model::histories;
+use flytewood_model::model::{Body, Call, Kind, Object, Outcome, World, GRANTED};
+use flytewood_model::random::Random;
+use flytewood_model::steered::steered;
 use std::collections::{BTreeMap, BTreeSet};
 
 const AREA_LEN: usize = 16_384;
@@ -27,53 +27,14 @@ impl Machine {
     }
 
     fn call(&mut self, caller: u64, call: &Call) -> Outcome {
-        let (b, a) = (&mut self.book[..], &mut self.area[..]);
-        let mut value = u64::MAX;
-        let v = &mut value;
-        let mut output = Vec::new();
-        let answer = match call {
-            Call::CreateCategory => bytes::create_category(b, a, caller, v),
-            Call::SetLabel { label } => bytes::set_label(b, a, caller, label, v),
-            Call::SetClearance { clearance } => bytes::set_clearance(b, a, caller, clearance, v),
-            Call::CreateContainer { d, label, description, mask, quota } => {
-                bytes::create_container(b, a, caller, *d, label, description, *mask, *quota, v)
-            }
-            Call::CreateSegment { d, label, description, quota } => {
-                bytes::create_segment(b, a, caller, *d, label, description, *quota, v)
-            }
-            Call::CreateGate { d, label, clearance, entry, closure, description } => {
-                bytes::create_gate(b, a, caller, *d, label, clearance, *entry, closure, description, v)
-            }
-            Call::CreateThread { d, label, clearance, description } => {
-                bytes::create_thread(b, a, caller, *d, label, clearance, description, v)
-            }
-            Call::Unreference { d, o } => bytes::unreference(b, a, caller, *d, *o, v),
-            Call::LinkSegment { d1, o, d } => bytes::link_segment(b, a, caller, *d1, *o, *d, v),
-            Call::FixQuota { d, o } => bytes::fix_quota(b, a, caller, *d, *o, v),
-            Call::MoveQuota { d, o, n } => bytes::move_quota(b, a, caller, *d, *o, *n, v),
-            Call::Read { d, s, k, from, count } => {
-                let (mut place, mut length) = (u64::MAX, u64::MAX);
-                let answer = bytes::read(b, a, caller, *d, *s, *k, *from, *count, &mut place, &mut length, v);
-                output = a[place as usize..(place + length) as usize].to_vec();
-                answer
-            }
-            Call::Write { d, s, k, from, count, bytes: lent } => {
-                bytes::write(b, a, caller, *d, *s, *k, *from, *count, lent, v)
-            }
-            Call::Resize { d, s, length } => bytes::resize(b, a, caller, *d, *s, *length, v),
-            Call::EnterGate { d, g, label_r, clearance_r, label_v, output_len } => {
-                output = vec![0; *output_len as usize];
-                bytes::enter_gate(b, a, caller, *d, *g, label_r, clearance_r, label_v, &mut output, v)
-            }
-            Call::Look { d, o, output_len } => {
-                output = vec![0xEE; *output_len as usize];
-                bytes::look(b, a, caller, *d, *o, &mut output, v)
-            }
-        };
-        if answer != GRANTED {
+        let mut output = vec![0xEE; call.output_len()];
+        let reply = bytes::call(&mut self.book, &mut self.area, caller, call, &mut output);
+        let (place, length) = reply.part;
+        output.extend_from_slice(&self.area[place as usize..(place + length) as usize]);
+        if reply.answer != GRANTED {
             output.clear();
         }
-        Outcome { answer, value, output }
+        Outcome { answer: reply.answer, value: reply.value, output }
     }
 
     /// The world that the two areas spell.

@@ -1,6 +1,6 @@
 //! The arguments of a call, to be changed one by one.
 
-use flytewood_hosts::model::Call;
+use flytewood_model::model::Call;
 
 /// The unsigned numbers; the length of an output is none.
 pub fn numbers(call: &mut Call) -> Vec<&mut u64> {

@@ -2,10 +2,10 @@
 
 use crate::ask::{ask, Given, UNTOUCHED};
 use crate::guarded::Guarded;
-use flytewood_hosts::book::positions::Positions;
-use flytewood_hosts::book::*;
-use flytewood_hosts::model::{Call, Outcome, World, GRANTED, NUMBERS_ENDED};
 use flytewood_kernel::{Kernel, AREA_LEN};
+use flytewood_model::book::positions::Positions;
+use flytewood_model::book::*;
+use flytewood_model::model::{Call, Outcome, World, GRANTED, NUMBERS_ENDED};
 
 /// RULES 6.1: "An area's length is wrong, or the book is not sound."
 pub const BAD_AREA: u64 = 1;

@@ -1,8 +1,8 @@
 //! What the histories must have reached, and how often they did.
 
-use flytewood_hosts::book::positions::Positions;
-use flytewood_hosts::labels::{Label, STAR, WORDS};
-use flytewood_hosts::model::{Body, Call, Kind, Object, Outcome, World, GRANTED, NUMBERS_ENDED};
+use flytewood_model::book::positions::Positions;
+use flytewood_model::labels::{Label, STAR, WORDS};
+use flytewood_model::model::{Body, Call, Kind, Object, Outcome, World, GRANTED, NUMBERS_ENDED};
 use std::collections::BTreeSet;
 
 /// One call that both sides agreed on.

@@ -59,3 +59,9 @@ impl Guarded {
         other
     }
 }
+
+impl AsRef<[u8]> for Guarded {
+    fn as_ref(&self) -> &[u8] {
+        self.bytes()
+    }
+}

@@ -7,12 +7,12 @@ use crate::guarded::Guarded;
 use crate::mixture::{draw, EXTREMES};
 use crate::run::{Run, Tally};
 use crate::showcase;
-use flytewood_hosts::book::books::any_book;
-use flytewood_hosts::book::*;
-use flytewood_hosts::coverage::{count_one, Seen};
-use flytewood_hosts::model::{Call, World, GRANTED, LAST_FIRST_NUMBER, MALFORMED};
-use flytewood_hosts::random::Random;
 use flytewood_kernel::{Kernel, AREA_LEN};
+use flytewood_model::book::books::any_book;
+use flytewood_model::book::*;
+use flytewood_model::coverage::{count_one, Seen};
+use flytewood_model::model::{Call, World, GRANTED, LAST_FIRST_NUMBER, MALFORMED};
+use flytewood_model::random::Random;
 
 /// What came of the damaged books.
 #[derive(Default)]
@@ -39,8 +39,7 @@ fn refused_untouched(
     let told = |what: &str| format!("{} asks {:?} of bad areas: {}", caller, call, what);
     need(given.answer == BAD_AREA, || told(&format!("answer {}", given.answer)))?;
     need(given.value == 0 && given.place == 0, || told("a value or a place"))?;
-    let len = output_len(&mut call.clone()).map_or(0, |len| *len as usize);
-    need(given.output == vec![UNTOUCHED; len], || told("an output was written"))?;
+    need(given.output == vec![UNTOUCHED; call.output_len()], || told("an output was written"))?;
     need(lent_book.bytes() == book && lent_area.bytes() == area, || told("an area was written"))?;
     count_one(seen, call.number(), given.answer);
     Ok(())

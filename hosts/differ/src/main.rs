@@ -1,4 +1,4 @@
-//! The kernel's archive against the model (`hosts/src/model.rs`) of page 01, the user's rules that
+//! The kernel's archive against the model (`hosts/model/src/model.rs`) of page 01, the user's rules that
 //! docs/RULES.md restates. W5 below is the user's request that tainted work must not show (docs/RULES.md,
 //! section 12).
 //!

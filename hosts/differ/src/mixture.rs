@@ -1,10 +1,10 @@
 //! The calls of a history: drawn to suit the world, so that about half are granted and rare refusals come up.
 
-use flytewood_hosts::coverage::Seen;
-use flytewood_hosts::drawn::Drawer;
-use flytewood_hosts::labels::PAST_THE_END;
-use flytewood_hosts::model::{Call, Kind, World, GRANTED};
-use flytewood_hosts::random::Random;
+use flytewood_model::coverage::Seen;
+use flytewood_model::drawn::Drawer;
+use flytewood_model::labels::PAST_THE_END;
+use flytewood_model::model::{Call, Kind, World, GRANTED};
+use flytewood_model::random::Random;
 
 use crate::arguments::{numbers, output_len, slices};
 

@@ -2,8 +2,8 @@
 
 use crate::features::FEATURES;
 use crate::rounds::Counts;
-use flytewood_hosts::book::CLAUSES;
-use flytewood_hosts::coverage::{Seen, Table};
+use flytewood_model::book::CLAUSES;
+use flytewood_model::coverage::{Seen, Table};
 
 /// How often each call gave each answer, in histories and hostile cases together.
 pub fn all_seen(counts: &Counts) -> Seen {

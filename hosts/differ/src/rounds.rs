@@ -6,8 +6,8 @@ use crate::report;
 use crate::run::{Tally, CALLS};
 use crate::tampered;
 use crate::themes;
-use flytewood_hosts::coverage::{Seen, Table};
-use flytewood_hosts::random::Random;
+use flytewood_model::coverage::{Seen, Table};
+use flytewood_model::random::Random;
 use std::time::Instant;
 
 /// At least 200 histories of 400 calls, with fixed seeds: those from 0 to below this, 17 for each theme.

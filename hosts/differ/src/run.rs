@@ -3,9 +3,9 @@
 use crate::bench::{Bench, Checked, Step};
 use crate::features::{Done, FEATURES};
 use crate::mixture;
-use flytewood_hosts::coverage::{count_one, Seen};
-use flytewood_hosts::model::{Call, Outcome};
-use flytewood_hosts::random::Random;
+use flytewood_model::coverage::{count_one, Seen};
+use flytewood_model::model::{Call, Outcome};
+use flytewood_model::random::Random;
 
 /// How many calls a history has.
 pub const CALLS: usize = 400;

@@ -1,9 +1,9 @@
 //! A small world in which each of the sixteen calls is granted to one thread, to be spoilt one argument at a time.
 
 use crate::bench::Bench;
-use flytewood_hosts::ask::*;
-use flytewood_hosts::labels::*;
-use flytewood_hosts::model::{Call, GRANTED};
+use flytewood_model::ask::*;
+use flytewood_model::labels::*;
+use flytewood_model::model::{Call, GRANTED};
 
 pub const CALLER: u64 = 101;
 const ROOT: u64 = 100;

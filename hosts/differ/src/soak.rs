@@ -3,7 +3,7 @@
 use crate::bench::Checked;
 use crate::report;
 use crate::rounds::{round, set_cases, Counts};
-use flytewood_hosts::coverage::Table;
+use flytewood_model::coverage::Table;
 use std::time::{Duration, Instant};
 
 /// Past the seeds of the fixed run.

@@ -2,9 +2,9 @@
 
 use crate::bench::{need, Bench, Checked};
 use crate::showcase::{self, CALLER, CONTAINER, SEGMENT};
-use flytewood_hosts::ask::{look, read, resize};
-use flytewood_hosts::book::{set, MASK, OWNER};
-use flytewood_hosts::model::{Body, Call};
+use flytewood_model::ask::{look, read, resize};
+use flytewood_model::book::{set, MASK, OWNER};
+use flytewood_model::model::{Body, Call};
 
 type Case = (&'static str, fn(&mut Bench), fn() -> Call);
 
@@ -37,7 +37,7 @@ fn first_byte(bench: &mut Bench, value: u8) {
     bench.area.bytes_mut()[block * 64] = value;
 }
 
-fn object(bench: &mut Bench, id: u64) -> &mut flytewood_hosts::model::Object {
+fn object(bench: &mut Bench, id: u64) -> &mut flytewood_model::model::Object {
     bench.world.objects.get_mut(&id).expect("an object of the showcase")
 }
 

@@ -2,10 +2,10 @@
 
 use crate::bench::{need, Bench, Checked};
 use crate::run::{Run, Tally};
-use flytewood_hosts::ask::*;
-use flytewood_hosts::labels::*;
-use flytewood_hosts::model::{Call, Kind, LAST_FIRST_NUMBER};
-use flytewood_hosts::random::Random;
+use flytewood_model::ask::*;
+use flytewood_model::labels::*;
+use flytewood_model::model::{Call, Kind, LAST_FIRST_NUMBER};
+use flytewood_model::random::Random;
 
 type Opening = fn(&mut Run) -> Checked;
 

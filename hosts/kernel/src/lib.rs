@@ -6,6 +6,7 @@
 
 mod raw;
 
+use flytewood_calls::{Call, Reply};
 use std::ptr;
 
 /// RULES 1.8: ".. the data area, 16,384 bytes in 256 blocks of 64."
@@ -119,6 +120,48 @@ impl<'a> Kernel<'a> {
         let (b, a) = self.areas();
         // SAFETY: as the head of this file says, here and in every call below.
         unsafe { raw::fw_start(b.0, b.1, a.0, a.1, first) }
+    }
+
+    /// Any of the sixteen; `output` is what calls 15 and 16 are lent for it.
+    pub fn call<B: AsRef<[u8]>>(&mut self, caller: u64, call: &Call<B>, output: &mut [u8]) -> Reply {
+        let mut part = (0, 0);
+        let Answer { answer, value } = match call {
+            Call::CreateCategory => self.create_category(caller),
+            Call::SetLabel { label } => self.set_label(caller, label.as_ref()),
+            Call::SetClearance { clearance } => self.set_clearance(caller, clearance.as_ref()),
+            Call::CreateContainer { d, label, description, mask, quota } => {
+                self.create_container(caller, *d, label.as_ref(), description.as_ref(), *mask, *quota)
+            }
+            Call::CreateSegment { d, label, description, quota } => {
+                self.create_segment(caller, *d, label.as_ref(), description.as_ref(), *quota)
+            }
+            Call::CreateGate { d, label, clearance, entry, closure, description } => {
+                let (label, clearance) = (label.as_ref(), clearance.as_ref());
+                self.create_gate(caller, *d, label, clearance, *entry, closure.as_ref(), description.as_ref())
+            }
+            Call::CreateThread { d, label, clearance, description } => {
+                self.create_thread(caller, *d, label.as_ref(), clearance.as_ref(), description.as_ref())
+            }
+            Call::Unreference { d, o } => self.unreference(caller, *d, *o),
+            Call::LinkSegment { d1, o, d } => self.link_segment(caller, *d1, *o, *d),
+            Call::FixQuota { d, o } => self.fix_quota(caller, *d, *o),
+            Call::MoveQuota { d, o, n } => self.move_quota(caller, *d, *o, *n),
+            Call::Read { d, s, k, from, count } => {
+                let read = self.read(caller, *d, *s, *k, *from, *count);
+                part = (read.place, read.bytes.len() as u64);
+                Answer { answer: read.answer, value: read.value }
+            }
+            Call::Write { d, s, k, from, count, bytes } => {
+                self.write(caller, *d, *s, *k, *from, *count, bytes.as_ref())
+            }
+            Call::Resize { d, s, length } => self.resize(caller, *d, *s, *length),
+            Call::EnterGate { d, g, label_r, clearance_r, label_v, .. } => {
+                let (label_r, clearance_r) = (label_r.as_ref(), clearance_r.as_ref());
+                self.enter_gate(caller, *d, *g, label_r, clearance_r, label_v.as_ref(), output)
+            }
+            Call::Look { d, o, .. } => self.look(caller, *d, *o, output),
+        };
+        Reply { answer, value, part }
     }
 
     /// Call 1.

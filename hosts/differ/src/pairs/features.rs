@@ -3,7 +3,7 @@
 use super::leaks::containers_named;
 use super::untainted::{untainted, untainted_thread};
 use crate::ask::Given;
-use flytewood_hosts::model::*;
+use flytewood_model::model::*;
 
 /// One turn of both histories; for what is asked of each, 0 is the first and 1 the second.
 pub struct Turn<'a> {

@@ -2,9 +2,9 @@
 
 use crate::arguments::numbers;
 use crate::ask::Given;
-use flytewood_hosts::book::*;
-use flytewood_hosts::labels::{may_read, Label};
-use flytewood_hosts::model::*;
+use flytewood_model::book::*;
+use flytewood_model::labels::{may_read, Label};
+use flytewood_model::model::*;
 
 /// A call that the archive has answered, and everything that a leak may look at or change.
 pub struct Leaking<'a> {

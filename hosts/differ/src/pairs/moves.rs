@@ -3,11 +3,11 @@
 
 use super::untainted::{threads, untainted, untainted_threads, with_level};
 use crate::mixture::{draw_of, fill_in};
-use flytewood_hosts::ask::*;
-use flytewood_hosts::coverage::Seen;
-use flytewood_hosts::labels::*;
-use flytewood_hosts::model::{Body, Call, Kind, Object, World, GRANTED};
-use flytewood_hosts::random::Random;
+use flytewood_model::ask::*;
+use flytewood_model::coverage::Seen;
+use flytewood_model::labels::*;
+use flytewood_model::model::{Body, Call, Kind, Object, World, GRANTED};
+use flytewood_model::random::Random;
 
 const GRANTS_WANTED: u64 = 55;
 /// How many calls are drawn in search of a granted one, and of a refusal that was seldom given in this pair.

@@ -5,10 +5,10 @@ use super::untainted::{untainted, with_level};
 use crate::ask::Given;
 use crate::bench::{need, Checked};
 use crate::mixture::fill_in;
-use flytewood_hosts::ask::*;
-use flytewood_hosts::labels::*;
-use flytewood_hosts::model::{Body, Call, Kind, Object, World, GRANTED};
-use flytewood_hosts::random::Random;
+use flytewood_model::ask::*;
+use flytewood_model::labels::*;
+use flytewood_model::model::{Body, Call, Kind, Object, World, GRANTED};
+use flytewood_model::random::Random;
 
 pub struct Opening<'a> {
     pub side: Side,

@@ -9,12 +9,12 @@ use super::told::told;
 use super::untainted::{the_three_terms, threads, untainted_thread, untainted_threads, Shown};
 use crate::ask::Given;
 use crate::bench::{need, Checked};
-use flytewood_hosts::ask::look;
-use flytewood_hosts::book::laid::laid;
-use flytewood_hosts::book::place::Order;
-use flytewood_hosts::coverage::{count_one, Seen};
-use flytewood_hosts::model::{Call, World, GRANTED};
-use flytewood_hosts::random::Random;
+use flytewood_model::ask::look;
+use flytewood_model::book::laid::laid;
+use flytewood_model::book::place::Order;
+use flytewood_model::coverage::{count_one, Seen};
+use flytewood_model::model::{Call, World, GRANTED};
+use flytewood_model::random::Random;
 
 /// How many turns a pair has.
 const FEWEST_TURNS: u64 = 60;

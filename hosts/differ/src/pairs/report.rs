@@ -2,8 +2,8 @@
 
 use super::features::FEATURES;
 use super::pair::Tally;
-use flytewood_hosts::coverage::{Seen, CAN_OCCUR};
-use flytewood_hosts::model::NO_LIVE_THREAD;
+use flytewood_model::coverage::{Seen, CAN_OCCUR};
+use flytewood_model::model::NO_LIVE_THREAD;
 
 /// An untainted caller is a live thread, so 3 is none of its answers.
 fn can_occur() -> impl Iterator<Item = (u64, u64)> {

@@ -4,9 +4,9 @@ use super::leaks::{Leak, Leaking};
 use crate::ask::{ask, Given};
 use crate::bench::{need, Checked, BAD_AREA};
 use crate::guarded::Guarded;
-use flytewood_hosts::book::*;
-use flytewood_hosts::model::{Call, World, GRANTED};
 use flytewood_kernel::{Kernel, AREA_LEN};
+use flytewood_model::book::*;
+use flytewood_model::model::{Call, World, GRANTED};
 use std::mem::replace;
 
 pub struct Side {

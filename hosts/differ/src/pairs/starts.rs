@@ -4,15 +4,15 @@
 use super::opening::{one, two, Opening};
 use super::untainted::{the_three_terms, threads, untainted, untainted_threads, with_level};
 use crate::bench::Checked;
-use flytewood_hosts::ask::*;
-use flytewood_hosts::book::books::any_book;
-use flytewood_hosts::book::laid::laid;
-use flytewood_hosts::book::place::Order;
-use flytewood_hosts::book::spelt;
-use flytewood_hosts::labels::*;
-use flytewood_hosts::model::{Body, World, LAST_FIRST_NUMBER};
-use flytewood_hosts::random::Random;
 use flytewood_kernel::AREA_LEN;
+use flytewood_model::ask::*;
+use flytewood_model::book::books::any_book;
+use flytewood_model::book::laid::laid;
+use flytewood_model::book::place::Order;
+use flytewood_model::book::spelt;
+use flytewood_model::labels::*;
+use flytewood_model::model::{Body, World, LAST_FIRST_NUMBER};
+use flytewood_model::random::Random;
 
 type Build = fn(&mut Opening) -> Checked;
 

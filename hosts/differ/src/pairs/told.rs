@@ -1,9 +1,9 @@
 //! Calls in words, for the pair of one seed that is told turn by turn.
 
 use crate::arguments::{numbers, slices};
-use flytewood_hosts::coverage::CAN_OCCUR;
-use flytewood_hosts::labels::Label;
-use flytewood_hosts::model::Call;
+use flytewood_model::coverage::CAN_OCCUR;
+use flytewood_model::labels::Label;
+use flytewood_model::model::Call;
 
 const LEVELS: [&str; 6] = ["star", "0", "1", "2", "3", "high star"];
 
@@ -39,8 +39,8 @@ fn told_label(label: &Label) -> String {
 #[cfg(test)]
 mod tests {
     use super::*;
-    use flytewood_hosts::ask::{move_quota, segment};
-    use flytewood_hosts::labels::{LEVEL_1, LEVEL_3};
+    use flytewood_model::ask::{move_quota, segment};
+    use flytewood_model::labels::{LEVEL_1, LEVEL_3};
 
     #[test]
     fn a_call_in_words() {

@@ -2,8 +2,8 @@
 //! be the same in both.
 
 use crate::bench::{need, Checked};
-use flytewood_hosts::labels::{Label, LEVEL_1, STAR, WORDS};
-use flytewood_hosts::model::{Kind, Object, World};
+use flytewood_model::labels::{Label, LEVEL_1, STAR, WORDS};
+use flytewood_model::model::{Kind, Object, World};
 use std::collections::{BTreeMap, BTreeSet};
 
 /// RULES 12.1: ".. at most 1 (code 2 or less), .."
@@ -123,8 +123,8 @@ fn differing_objects(one: &Shown, other: &Shown, id: Option<u64>) -> String {
 #[cfg(test)]
 mod tests {
     use super::*;
-    use flytewood_hosts::ask::*;
-    use flytewood_hosts::labels::{LEVEL_2, LEVEL_3};
+    use flytewood_model::ask::*;
+    use flytewood_model::labels::{LEVEL_2, LEVEL_3};
 
     const V: u64 = 102;
 

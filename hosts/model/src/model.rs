@@ -5,13 +5,12 @@ mod creates;
 mod gates;
 mod objects;
 mod quotas;
-mod request;
 mod segments;
 mod sound;
 mod threads;
 
+pub use flytewood_calls::Call;
 pub use objects::{segment_use, Body, Kind, Object};
-pub use request::Call;
 
 use crate::labels::*;
 use std::collections::{BTreeMap, BTreeSet};

@@ -8,13 +8,13 @@ use std::fs;
 use std::path::Path;
 use std::process::exit;
 
-use flytewood_hosts::antt;
-use flytewood_hosts::coverage::{Seen, Table};
-use flytewood_hosts::histories::by_hand;
-use flytewood_hosts::history::{History, Turn};
-use flytewood_hosts::model::Call;
-use flytewood_hosts::random::Random;
-use flytewood_hosts::steered::{count, steered};
+use flytewood_model::antt;
+use flytewood_model::coverage::{Seen, Table};
+use flytewood_model::histories::by_hand;
+use flytewood_model::history::{History, Turn};
+use flytewood_model::model::Call;
+use flytewood_model::random::Random;
+use flytewood_model::steered::{count, steered};
 
 const COMMAND: &str = "cargo run --release --manifest-path hosts/Cargo.toml --bin short_histories --";
 const SEED: u64 = 0x7368_6F72_7421;

@@ -7,13 +7,13 @@ use std::env;
 use std::fs;
 use std::process::exit;
 
-use flytewood_hosts::book::books::{all_books, Start};
-use flytewood_hosts::book::compounds::compounds;
-use flytewood_hosts::book::damage::{singles, Damage};
-use flytewood_hosts::book::script::{replay, Script, Write};
-use flytewood_hosts::book::words::words;
-use flytewood_hosts::book::*;
-use flytewood_hosts::random::Random;
+use flytewood_model::book::books::{all_books, Start};
+use flytewood_model::book::compounds::compounds;
+use flytewood_model::book::damage::{singles, Damage};
+use flytewood_model::book::script::{replay, Script, Write};
+use flytewood_model::book::words::words;
+use flytewood_model::book::*;
+use flytewood_model::random::Random;
 
 const SEED: u64 = 0x426F_6F6B_7761_7274;
 const LEAST_VERDICTS: usize = 3_500;

@@ -7,11 +7,11 @@ use std::env;
 use std::fs;
 use std::process::exit;
 
-use flytewood_hosts::label_cases::*;
-use flytewood_hosts::label_draw::*;
-use flytewood_hosts::label_forms::*;
-use flytewood_hosts::labels::*;
-use flytewood_hosts::random::Random;
+use flytewood_model::label_cases::*;
+use flytewood_model::label_draw::*;
+use flytewood_model::label_forms::*;
+use flytewood_model::labels::*;
+use flytewood_model::random::Random;
 
 const SEED: u64 = 0x466C_7974_6577_6F6F;
 
