@@ -1,6 +1,6 @@
 -- What one pass over the blocks keeps in two arrays: where the blocks of each segment begin when all segments' blocks are numbered one after the
 -- other, and which of these numbers a block was seen to have.
-use Prim.Native.Nat.{ℕ, _+_, _-_, _<_}
+use Prim.Native.Nat.{ℕ, _+_, _-_, _%_, _<_}
 use mathlib.Core.Bool.{not}
 use mathlib.Core.List.{List}
 use mathlib.Core.Path.{_≡_}
@@ -31,10 +31,14 @@ usedBelow v n = Σ n (λ b. when (not (eqb (ownerOf v b) 0)) 1)
 unfoldable pub seenBelow : View → ℕ → ℕ → ℕ
 seenBelow v n x = Σ n (λ b. when (not (eqb (ownerOf v b) 0)) (when (eqb (numberOf v b) x) 1))
 
+-- what two bytes hold of an offset
+abbrev pub twoBytes : ℕ → ℕ
+twoBytes n = n % 65536
+
 -- the array holds the offsets of the rows below n
 pub record Offsets (v : View) (n : ℕ) (offsets : List ℕ) : Type 0 where
   pub offsets-long : length offsets ≡ rowCount
-  pub offset : (r : ℕ) → r < n → getD offsets r 0 ≡ offsetOf v r
+  pub offset : (r : ℕ) → r < n → getD offsets r 0 ≡ twoBytes (offsetOf v r)
 
 -- the array holds what was seen of the blocks below n
 pub record Seen (v : View) (n : ℕ) (seen : List ℕ) : Type 0 where

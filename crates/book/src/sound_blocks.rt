@@ -13,6 +13,7 @@ ghost use Rattle.book.specs.Test.{every, ownedB, blockB, neededBlocks, b
 ghost use Rattle.book.specs.Seen.{numberOf, Offsets, Seen};
 use super::kinds::SEGMENT;
 use super::numbers::blocks_of;
+use super::numbers::index;
 use super::numbers::row_of;
 use super::numbers::small_index;
 use tables::BLOCKS;
@@ -50,15 +51,16 @@ fn needed(b: &[u8], r: usize) -> usize
 
 // ---- numbers of blocks
 
-// Where each segment's blocks begin, and how many blocks all need. In a book that is not sound that may be more than two bytes hold.
-fn place(b: &[u8], offsets: &mut [u32; ROWS]) -> usize
+// Where each segment's blocks begin, and how many blocks all need. In a book that is not sound that may be more than two bytes hold; it is refused
+// for how many it needs, before an offset is asked for.
+fn place(b: &[u8], offsets: &mut [u16; ROWS]) -> usize
     requires { ⌜ (length (now b) ≡ size) × (now offsets ≡ replicate rowCount 0) ⌝ }
     ensures { λ n. ⌜ (n ≡ neededBlocks (view (now (b .entry)))) × Offsets (view (now (b .entry))) rowCount (now (offsets .exit)) ⌝ }
 {
     let mut sum: usize = 0;
     let mut i: usize = 0;
     while i < ROWS {
-        offsets[i] = sum as u32;
+        offsets[i] = (sum % 65536) as u16;
         sum += needed(b, i);
         i += 1;
     }
@@ -79,23 +81,16 @@ fn owned(b: &[u8], i: usize) -> bool
     small_index(get8(b, INDEX, i)) < blocks_of(get16(b, LEN, owner))
 }
 
-// An offset as a number that is counted with.
-fn offset(x: u32) -> usize
-    ensures { λ r. ⌜ (r ≡ x) × (r < 4294967296) ⌝ }
-{
-    x as usize
-}
-
-fn number(b: &[u8], offsets: &[u32; ROWS], i: usize) -> usize
+fn number(b: &[u8], offsets: &[u16; ROWS], i: usize) -> usize
     requires { ⌜ (length (now b) ≡ size) × (i < blockCount) × (ownerOf (view (now b)) i ≡ 0 → ⊥) × (ownedB (view (now b)) i ≡ true) × (neededBlocks (view (now b)) ≤ blockCount) × Offsets (view (now b)) rowCount (now offsets) ⌝ }
     ensures { λ n. ⌜ (n ≡ numberOf (view (now (b .entry))) i) × (n < blockCount) ⌝ }
 {
     let owner = row_of(get16(b, OWNER, i));
-    offset(offsets[owner]) + small_index(get8(b, INDEX, i))
+    index(offsets[owner]) + small_index(get8(b, INDEX, i))
 }
 
 // Whether block i is as it should be, where those below it are; if so, its number is seen.
-fn block_ok(b: &[u8], offsets: &[u32; ROWS], seen: &mut [u8; BLOCKS], i: usize) -> bool
+fn block_ok(b: &[u8], offsets: &[u16; ROWS], seen: &mut [u8; BLOCKS], i: usize) -> bool
     requires { ⌜ (length (now b) ≡ size) × (i < blockCount) × (neededBlocks (view (now b)) ≤ blockCount) × Offsets (view (now b)) rowCount (now offsets) × (every i (blockB (view (now b))) ≡ true) × Seen (view (now b)) i (now seen) ⌝ }
     ensures { λ t. ⌜ (t ≡ blockB (view (now (b .entry))) i) × (t ≡ true → Seen (view (now (b .entry))) (i + 1) (now (seen .exit))) ⌝ }
 {
@@ -114,7 +109,7 @@ fn block_ok(b: &[u8], offsets: &[u32; ROWS], seen: &mut [u8; BLOCKS], i: usize) 
 }
 
 // Whether each block is as it should be, and as many are used as are asked for.
-fn each_ok(b: &[u8], offsets: &[u32; ROWS], seen: &mut [u8; BLOCKS], asked: usize) -> bool
+fn each_ok(b: &[u8], offsets: &[u16; ROWS], seen: &mut [u8; BLOCKS], asked: usize) -> bool
     requires { ⌜ (length (now b) ≡ size) × (asked ≡ neededBlocks (view (now b))) × (asked ≤ blockCount) × Offsets (view (now b)) rowCount (now offsets) × (now seen ≡ replicate blockCount 0) ⌝ }
     ensures { λ t. ⌜ t ≡ blocksB (view (now (b .entry))) ⌝ }
 {
@@ -134,7 +129,7 @@ pub fn blocks_ok(b: &[u8]) -> bool
     requires { ⌜ length (now b) ≡ size ⌝ }
     ensures { λ t. ⌜ t ≡ blocksB (view (now (b .entry))) ⌝ }
 {
-    let mut offsets = [0u32; ROWS];
+    let mut offsets = [0u16; ROWS];
     let asked = place(b, &mut offsets);
     if BLOCKS < asked {
         return false;

@@ -103,7 +103,7 @@ fn link_new(b: &[u8], l: usize) -> bool
 }
 
 // Whether no link below l is the same, where counts has what leads to each row from there: an object to which none leads needs no look at them.
-fn once(b: &[u8], counts: &[u16; ROWS], l: usize) -> bool
+fn once(b: &[u8], counts: &[u8; ROWS], l: usize) -> bool
     requires { ⌜ (length (now b) ≡ size) × (l < linkCount) × (linkB (view (now b)) l ≡ true) × ((r : ℕ) → r < rowCount → getD (now counts) r 0 ≡ linksBelow (view (now b)) l r) ⌝ }
     ensures { λ t. ⌜ t ≡ onceB (view (now (b .entry))) (linksTo (view (now (b .entry)))) l ⌝ }
 {
@@ -126,8 +126,15 @@ fn add_at(a: &mut [u16; ROWS], i: usize, w: u16)
     a[i] = a[i] + w;
 }
 
+fn add_one(a: &mut [u8; ROWS], i: usize)
+    requires { ⌜ (i < rowCount) × (getD (now a) i 0 + 1 < 256) ⌝ }
+    ensures { λ _. ⌜ now (a .exit) ≡ set (now (a .entry)) i (getD (now (a .entry)) i 0 + 1) ⌝ }
+{
+    a[i] = a[i] + 1;
+}
+
 // Counts link l at its object's row, and charges its object's quota at its container's.
-fn add_link(b: &[u8], l: usize, counts: &mut [u16; ROWS], charges: &mut [u16; ROWS])
+fn add_link(b: &[u8], l: usize, counts: &mut [u8; ROWS], charges: &mut [u16; ROWS])
     requires { ⌜ (length (now b) ≡ size) × (l < linkCount) × (rowsB (view (now b)) ≡ true) × (linkB (view (now b)) l ≡ true) × Tallied (view (now b)) l (now counts) (now charges) ⌝ }
     ensures { λ _. ⌜ Tallied (view (now (b .entry))) (l + 1) (now (counts .exit)) (now (charges .exit)) ⌝ }
 {
@@ -138,12 +145,12 @@ fn add_link(b: &[u8], l: usize, counts: &mut [u16; ROWS], charges: &mut [u16; RO
     let from = row_of(mark);
     let to = index(get16(b, LINK_TO, l));
     let quota = get16(b, QUOTA, to);
-    add_at(counts, to, 1);
+    add_one(counts, to);
     add_at(charges, from, quota);
 }
 
 // Whether every link leads from a container to an object and none occurs twice; if so, what leads to each row and what is charged to it.
-fn tally(b: &[u8], counts: &mut [u16; ROWS], charges: &mut [u16; ROWS]) -> bool
+fn tally(b: &[u8], counts: &mut [u8; ROWS], charges: &mut [u16; ROWS]) -> bool
     requires { ⌜ (length (now b) ≡ size) × (rowsB (view (now b)) ≡ true) × (now counts ≡ replicate rowCount 0) × (now charges ≡ replicate rowCount 0) ⌝ }
     ensures { λ t. ⌜ (t ≡ tallyB (view (now (b .entry)))) × (t ≡ true → Tallied (view (now (b .entry))) linkCount (now (counts .exit)) (now (charges .exit))) ⌝ }
 {
@@ -163,7 +170,7 @@ fn tally(b: &[u8], counts: &mut [u16; ROWS], charges: &mut [u16; ROWS]) -> bool
 
 // ---- how a row is linked
 
-fn tied(is_root: bool, code: u8, fixed: u8, q: u16, n: u16) -> bool
+fn tied(is_root: bool, code: u8, fixed: u8, q: u16, n: u8) -> bool
     ensures { λ t. ⌜ t ≡ tiedN «is_root» code fixed q n ⌝ }
 {
     if is_root {
@@ -197,7 +204,7 @@ fn fits(code: u8, q: u16, n: u16, u: u16) -> bool
 }
 
 // Row r, to which n links lead and in which quotas of u are linked.
-fn tie_ok(b: &[u8], r: usize, n: u16, u: u16) -> bool
+fn tie_ok(b: &[u8], r: usize, n: u8, u: u16) -> bool
     requires { ⌜ (length (now b) ≡ size) × (r < rowCount) ⌝ }
     ensures { λ t. ⌜ t ≡ tieB (view (now (b .entry))) r n u ⌝ }
 {
@@ -213,7 +220,7 @@ fn tie_ok(b: &[u8], r: usize, n: u16, u: u16) -> bool
     fits(code, q, get16(b, LEN, r), u)
 }
 
-fn ties_ok(b: &[u8], counts: &[u16; ROWS], charges: &[u16; ROWS]) -> bool
+fn ties_ok(b: &[u8], counts: &[u8; ROWS], charges: &[u16; ROWS]) -> bool
     requires { ⌜ (length (now b) ≡ size) × Tallied (view (now b)) linkCount (now counts) (now charges) ⌝ }
     ensures { λ t. ⌜ t ≡ every rowCount (λ r. tieB (view (now (b .entry))) r (linksTo (view (now (b .entry))) r) (chargedTo (view (now (b .entry))) r)) ⌝ }
 {
@@ -233,7 +240,7 @@ pub fn links_ok(b: &[u8]) -> bool
     requires { ⌜ (length (now b) ≡ size) × (rowsB (view (now b)) ≡ true) ⌝ }
     ensures { λ t. ⌜ t ≡ linksB (view (now (b .entry))) ⌝ }
 {
-    let mut counts = [0u16; ROWS];
+    let mut counts = [0u8; ROWS];
     let mut charges = [0u16; ROWS];
     if !tally(b, &mut counts, &mut charges) {
         return false;

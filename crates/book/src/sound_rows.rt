@@ -1,12 +1,13 @@
 // Whether each row, by itself, is as in a sound book: ranges, ids and labels.
 ghost use mathlib.Core.Path.{_≡_};
 ghost use mathlib.Core.Bool.{true, not};
-ghost use Prim.Native.Nat.{_+_, _%_, _<_, _≤_};
+ghost use Prim.Native.Nat.{_+_, _<_, _≤_};
+ghost use lib.Dec.{eqb};
 ghost use lib.ListN.{length, replicate};
 ghost use Rattle.tables.specs.Layout.{size, view, rowCount};
 ghost use Rattle.book.specs.Book.{idOf, labelOf, hasId};
 ghost use Rattle.book.specs.Test.{every, rangeN, rangeB, newB, idB, clearB, labelB, rowB, rowsB};
-ghost use Rattle.book.specs.Marks.{markCount, Marked};
+ghost use Rattle.book.specs.Marks.{markCount, markBytes, placeOf, markAt, markSet, Marked};
 use super::find::has_id;
 use super::kinds::CONTAINER;
 use super::kinds::FREE;
@@ -35,8 +36,12 @@ use tables::get16;
 use tables::get64;
 use tables::next;
 
-// How many marks there are for ids: ids in use that were issued within this many calls of one another have a mark each.
-const MARKS: usize = 2048;
+// How many marks there are for ids: ids in use that were issued within this many calls of one another have a mark each. It is prime, so that up to this
+// many ids at equal distances have one each too, whatever the distance, unless that is a multiple of it.
+const MARKS: usize = 2039;
+
+// The bytes that hold them, a bit each.
+const MARK_BYTES: usize = MARKS / 8 + 1;
 
 const MAX_LENGTH: u16 = 16256;
 
@@ -97,26 +102,42 @@ pub fn id_absent(b: &[u8], n: usize, id: u64) -> bool
     true
 }
 
+// The place of an id's mark.
 fn mark_of(id: u64) -> usize
-    ensures { λ n. ⌜ (n ≡ id % markCount) × (n < markCount) ⌝ }
+    ensures { λ n. ⌜ (n ≡ placeOf id) × (n < markCount) ⌝ }
 {
-    (id % 2048) as usize
+    (id % MARKS as u64) as usize
+}
+
+// Whether the mark at this place is made.
+fn has_mark(marks: &[u8; MARK_BYTES], place: usize) -> bool
+    requires { ⌜ place < markCount ⌝ }
+    ensures { λ t. ⌜ t ≡ eqb (markAt (now (marks .entry)) place) 1 ⌝ }
+{
+    (marks[place / 8] >> (place % 8)) % 2 == 1
+}
+
+fn set_mark(marks: &mut [u8; MARK_BYTES], place: usize)
+    requires { ⌜ place < markCount ⌝ }
+    ensures { λ _. ⌜ now (marks .exit) ≡ markSet (now (marks .entry)) place ⌝ }
+{
+    marks[place / 8] = marks[place / 8] | 1 << (place % 8);
 }
 
 // Whether no live row below r has the id of row r. Those rows are looked at only where one of them made the same mark.
-fn id_new(b: &[u8], r: usize, id: u64, marks: &mut [u8; MARKS]) -> bool
+fn id_new(b: &[u8], r: usize, id: u64, marks: &mut [u8; MARK_BYTES]) -> bool
     requires { ⌜ (length (now b) ≡ size) × (r < rowCount) × (id ≡ idOf (view (now b)) r) × Marked (view (now b)) r (now marks) ⌝ }
     ensures { λ t. ⌜ (t ≡ newB (view (now (b .entry))) r) × Marked (view (now (b .entry))) (r + 1) (now (marks .exit)) ⌝ }
 {
     let place = mark_of(id);
-    if marks[place] == 0 {
-        marks[place] = 1;
+    if !has_mark(marks, place) {
+        set_mark(marks, place);
         return true;
     }
     id_absent(b, r, id)
 }
 
-fn id_ok(b: &[u8], r: usize, marks: &mut [u8; MARKS]) -> bool
+fn id_ok(b: &[u8], r: usize, marks: &mut [u8; MARK_BYTES]) -> bool
     requires { ⌜ (length (now b) ≡ size) × (r < rowCount) × Marked (view (now b)) r (now marks) ⌝ }
     ensures { λ t. ⌜ (t ≡ idB (view (now (b .entry))) r) × (t ≡ true → Marked (view (now (b .entry))) (r + 1) (now (marks .exit))) ⌝ }
 {
@@ -163,7 +184,7 @@ fn label_ok(b: &[u8], r: usize) -> bool
     clear_ok(b, r, d, &words)
 }
 
-fn row_ok(b: &[u8], r: usize, marks: &mut [u8; MARKS]) -> bool
+fn row_ok(b: &[u8], r: usize, marks: &mut [u8; MARK_BYTES]) -> bool
     requires { ⌜ (length (now b) ≡ size) × (r < rowCount) × Marked (view (now b)) r (now marks) ⌝ }
     ensures { λ t. ⌜ (t ≡ rowB (view (now (b .entry))) r) × (t ≡ true → Marked (view (now (b .entry))) (r + 1) (now (marks .exit))) ⌝ }
 {
@@ -179,8 +200,8 @@ fn row_ok(b: &[u8], r: usize, marks: &mut [u8; MARKS]) -> bool
     label_ok(b, r)
 }
 
-fn each_ok(b: &[u8], marks: &mut [u8; MARKS]) -> bool
-    requires { ⌜ (length (now b) ≡ size) × (now marks ≡ replicate markCount 0) ⌝ }
+fn each_ok(b: &[u8], marks: &mut [u8; MARK_BYTES]) -> bool
+    requires { ⌜ (length (now b) ≡ size) × (now marks ≡ replicate markBytes 0) ⌝ }
     ensures { λ t. ⌜ t ≡ every rowCount (rowB (view (now (b .entry)))) ⌝ }
 {
     let mut i: usize = 0;
@@ -201,6 +222,6 @@ pub fn rows_ok(b: &[u8]) -> bool
     if NEXT_MOST < next(b) {
         return false;
     }
-    let mut marks = [0u8; MARKS];
+    let mut marks = [0u8; MARK_BYTES];
     each_ok(b, &mut marks)
 }

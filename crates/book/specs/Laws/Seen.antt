@@ -18,7 +18,7 @@ use Rattle.tables.specs.Layout.{View, rowCount, blockCount}
 use Rattle.book.specs.Book.{codeOf, lenOf, ownerOf, indexOf, blocksOf}
 use Rattle.book.specs.Sound.{Used, Owned}
 use Rattle.book.specs.Test.{every, ownedB, twinB, blockB, usedBlocks, neededBlocks, blocksB}
-use Rattle.book.specs.Seen.{needsOf, offsetOf, numberOf, seenBelow, usedBelow, Offsets, Seen}
+use Rattle.book.specs.Seen.{needsOf, offsetOf, numberOf, seenBelow, usedBelow, twoBytes, Offsets, Seen}
 use Rattle.book.specs.Laws.Tests.{and-l, and-r, and-fails, not-by, not-of, apart, every-of, every-by, every-fails}
 use Rattle.book.specs.Laws.Tally.{added, zeros-are, zeros-long}
 use Rattle.book.specs.Laws.MeansBlocks.{ones, up, owned-is, block-of}
@@ -106,12 +106,12 @@ pub offsets-none : (v : View) (a : List ℕ) → a ≡ replicate rowCount 0 → 
 offsets-none v a e = record { offsets-long = zeros-long rowCount a e; offset = λ r l. absurd (omega arith) }
 
 -- One row more.
-pub offsets-more : (v : View) (n : ℕ) (a : List ℕ) → Offsets v n a → n < rowCount → (x : ℕ) → x ≡ offsetOf v n → Offsets v (n + 1) (set a n x)
+pub offsets-more : (v : View) (n : ℕ) (a : List ℕ) → Offsets v n a → n < rowCount → (x : ℕ) → x ≡ twoBytes (offsetOf v n) → Offsets v (n + 1) (set a n x)
 offsets-more v n a s low x e =
     record {
       offsets-long = length-set a n x ∙ s .offsets-long;
       offset = λ r l. elim (ℕ-discrete r n) [
-        | yes q ↦ ap (λ (k : ℕ). getD (set a n x) k 0) q ∙ getD-set-same a n x 0 (omega (arith, s .offsets-long)) ∙ e ∙ ap (offsetOf v) (sym q)
+        | yes q ↦ ap (λ (k : ℕ). getD (set a n x) k 0) q ∙ getD-set-same a n x 0 (omega (arith, s .offsets-long)) ∙ e ∙ ap (λ (k : ℕ). twoBytes (offsetOf v k)) (sym q)
         | no ne ↦ getD-set-other a n r x 0 ne ∙ s .offset r (less-of r l ne)
       ];
     }

@@ -3,7 +3,7 @@ use Prim.Native.Nat.{ℕ, _*_, _-_, _≤_}
 use native.Mathlib.Omega.{arith}
 use mathlib.Core.Path.{_≡_, sym, _∙_, ap, subst}
 use Rattle.tables.specs.Layout.{view, rowCount}
-use Rattle.book.specs.Seen.{offsetOf, Offsets}
+use Rattle.book.specs.Seen.{offsetOf, twoBytes, Offsets}
 use Rattle.book.specs.Laws.Seen.{offset-none, offset-more, offset-all, offsets-none, offsets-more}
 use Rattle.book.proofs.sound_blocks.place.Statement.{statement}
 use Rattle.book.proofs.sound_blocks.place.Tie as tie
@@ -45,7 +45,7 @@ loop-again : tie.Need-loop-again Inv-loop μ-loop
 loop-again c =
     let v = view (c .before .before .before .before .args .b .now) in
     let turn = c .before .before .loop in
-    (omega arith, omega (arith, offset-more v (turn .i), turn .inv .1, c .needed .ensures .0), omega (arith, turn .inv .2, c .needed .ensures .1), offsets-more v (turn .i) (turn .offsets) (turn .inv .3) (c .before .loop-test .taken) (turn .sum) (turn .inv .1))
+    (omega arith, omega (arith, offset-more v (turn .i), turn .inv .1, c .needed .ensures .0), omega (arith, turn .inv .2, c .needed .ensures .1), offsets-more v (turn .i) (turn .offsets) (turn .inv .3) (c .before .loop-test .taken) (twoBytes (turn .sum)) (ap twoBytes (turn .inv .1)))
 
 returns : tie.Need-returns Inv-loop μ-loop
 returns c =

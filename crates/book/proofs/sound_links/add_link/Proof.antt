@@ -32,16 +32,16 @@ get16-requires-3 c κs =
     let low : at-index .result < rowCount = omega (arith, link-to-low (view (s .args .b .now)) (s .args .l) (s .pre .1) (s .pre .3) (λ z. c .before .before .before .if1 .left (c .before .before .before .before .get16 .ensures ∙ z)), (at-index .ensures .0 ∙ c .before .get162 .ensures)) in
     search needs
 
-add-at-requires : tie.Need-add-at-requires
-add-at-requires c κs =
+add-one-requires : tie.Need-add-one-requires
+add-one-requires c κs =
     let s = c .before .before .before .before .before .before .before .before in
     let pre = s .pre in
     let at-index = c .before .before .index in
     let low : at-index .result < rowCount = omega (arith, link-to-low (view (s .args .b .now)) (s .args .l) (pre .1) (pre .3) (λ z. c .before .before .before .before .before .if1 .left (c .before .before .before .before .before .before .get16 .ensures ∙ z)), (at-index .ensures .0 ∙ c .before .before .before .get162 .ensures)) in
-    (low, omega (arith, pre .4 .links-most (at-index .result) low))
+    (low, omega (arith, pre .4 .links-most (at-index .result) low, pre .1))
 
-add-at-requires-2 : tie.Need-add-at-requires-2
-add-at-requires-2 c κs =
+add-at-requires : tie.Need-add-at-requires
+add-at-requires c κs =
     let s = c .before .before .before .before .before .before .before .before .before .before in
     let pre = s .pre in
     let v = view (s .args .b .now) in
@@ -67,7 +67,7 @@ returns-2 c =
     let low : at-index .result < rowCount = omega (arith, link-to-low v (s .args .l) (pre .1) (pre .3) (λ z. at-if1 .left (at-get16 .ensures ∙ z)), (at-index .ensures .0 ∙ at-get162 .ensures)) in
     let first : at-row-of .result < rowCount = omega (arith, link-from-low v (s .args .l) (pre .1) (pre .3) (λ z. at-if1 .left (at-get16 .ensures ∙ z)), (at-row-of .ensures .0 ∙ ap (λ (x : ℕ). x - 1) (at-get16 .ensures))) in
     let most : at-get163 .result ≤ 256 = omega (arith, link-quota v (s .args .l) (pre .2) (pre .1) (pre .3) (λ z. at-if1 .left (at-get16 .ensures ∙ z)), at-get163 .ensures ∙ ap (λ (x : ℕ). getD (v .quota) x 0) (at-index .ensures .0 ∙ at-get162 .ensures)) in
-    tallied-same v (s .args .l + 1) _ _ _ _ (c .before .before .add-at .ensures) (c .add-at2 .ensures) (tallied-more v (s .args .l) (s .args .counts .now) (s .args .charges .now) (pre .4) (at-row-of .result) (at-index .result) (at-get163 .result) (at-row-of .ensures .0 ∙ ap (λ (x : ℕ). x - 1) (at-get16 .ensures)) (at-index .ensures .0 ∙ at-get162 .ensures) (at-get163 .ensures) (λ z. at-if1 .left (at-get16 .ensures ∙ z)) first low most)
+    tallied-same v (s .args .l + 1) _ _ _ _ (c .before .before .add-one .ensures) (c .add-at .ensures) (tallied-more v (s .args .l) (s .args .counts .now) (s .args .charges .now) (pre .4) (at-row-of .result) (at-index .result) (at-get163 .result) (at-row-of .ensures .0 ∙ ap (λ (x : ℕ). x - 1) (at-get16 .ensures)) (at-index .ensures .0 ∙ at-get162 .ensures) (at-get163 .ensures) (λ z. at-if1 .left (at-get16 .ensures ∙ z)) first low most)
 
 pub add-link-spec : {M : Type 1} → statement M
 add-link-spec =
@@ -79,6 +79,6 @@ add-link-spec =
     get16-requires-2
     index-requires
     get16-requires-3
+    add-one-requires
     add-at-requires
-    add-at-requires-2
     returns-2)

@@ -24,13 +24,6 @@ get16-requires-2 c κs = search needs
 index-requires : tie.Need-index-requires
 index-requires c κs = search needs
 
-mul-if2 : tie.Need-mul-if2
-mul-if2 c =
-    let s = c .before .before .before .before .before in
-    let at-index = c .index in
-    let low : at-index .result < rowCount = omega (arith, link-to-low (view (s .args .b .now)) (s .args .l) (s .pre .1) (s .pre .2) (λ z. c .before .before .if1 .left (c .before .before .before .get16 .ensures ∙ z)), (at-index .ensures .0 ∙ c .before .get162 .ensures)) in
-    omega arith
-
 element-copy-out-if2 : tie.Need-element-copy-out-if2
 element-copy-out-if2 c =
     let s = c .before .before .before .before .before in
@@ -71,7 +64,6 @@ once-spec =
     returns
     get16-requires-2
     index-requires
-    mul-if2
     element-copy-out-if2
     returns-2
     link-new-requires

@@ -22,14 +22,11 @@ loop-holds : tie.Need-loop-holds Inv-loop μ-loop
 unfolding every
 loop-holds c = (omega arith, refl)
 
-mul-tie-ok : tie.Need-mul-tie-ok Inv-loop μ-loop
-mul-tie-ok c = omega arith
-
 element-copy-out-tie-ok : tie.Need-element-copy-out-tie-ok Inv-loop μ-loop
 element-copy-out-tie-ok c = omega arith
 
-mul-tie-ok-2 : tie.Need-mul-tie-ok-2 Inv-loop μ-loop
-mul-tie-ok-2 c = omega arith
+mul-tie-ok : tie.Need-mul-tie-ok Inv-loop μ-loop
+mul-tie-ok c = omega arith
 
 element-copy-out-tie-ok-2 : tie.Need-element-copy-out-tie-ok-2 Inv-loop μ-loop
 element-copy-out-tie-ok-2 c = omega arith
@@ -73,9 +70,8 @@ ties-ok-spec =
     Inv-loop
     μ-loop
     loop-holds
-    mul-tie-ok
     element-copy-out-tie-ok
-    mul-tie-ok-2
+    mul-tie-ok
     element-copy-out-tie-ok-2
     tie-ok-requires
     returns
