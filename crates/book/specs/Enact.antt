@@ -3,16 +3,16 @@
 -- So what a change leaves is fixed to the byte. Laws/ has for each that the world it leaves is the change
 -- applied to the world before.
 use Prim.Native.Nat.{ℕ, zero, suc, _+_, _*_, _-_, _/_, _%_}
-use mathlib.Core.Bool.{Bool, true, false, not, cond}
-use mathlib.Core.List.{List, [], _∷_, _++_}
+use mathlib.Core.Bool.{cond}
+use mathlib.Core.List.{List, _++_}
 use lib.ListN.{length, getD, take, replicate}
 use lib.Dec.{eqb, leb, ltb}
 use Rattle.labels.specs.declared.Label.{Label}
 use Rattle.labels.specs.Core.{wordCount}
 use Rattle.quotas.specs.Any.{both}
-use Rattle.rules.specs.Kernel.{Obj, kindCode, World, Edit, relabel, fix, requota, rewrite, Change, keep, alter, create, cut, link, stays, kept, blockSize, textSize, start}
+use Rattle.rules.specs.Kernel.{Obj, kindCode, Edit, relabel, fix, requota, rewrite, Change, keep, alter, create, cut, link, stays, kept, blockSize, textSize, start}
 use Rattle.tables.specs.Layout.{View, rowCount, linkCount, blockCount, empty, onTab, putT, runT}
-use Rattle.book.specs.Book.{nextOf, rootOf, idOf, codeOf, lenOf, markOf, fromOf, toOf, ownerOf, indexOf, blocksOf, first, onFound, rowOf, collect, worldOf}
+use Rattle.book.specs.Book.{nextOf, idOf, codeOf, lenOf, markOf, toOf, ownerOf, indexOf, blocksOf, first, onFound, rowOf, collect, worldOf}
 use Rattle.book.specs.declared.Found.{Found}
 
 -- RULES 1.8: ".. the data area, 16,384 bytes in 256 blocks of 64."

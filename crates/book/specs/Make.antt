@@ -1,7 +1,7 @@
 -- A new object as it is handed to the book: numbers and labels by value, texts as bytes lent. Which object of the rules that is, and what a create and
 -- a link leave, by rows.
 use Prim.Native.Nat.{ℕ, _+_, _<_, _≤_}
-use mathlib.Core.Bool.{Bool, cond}
+use mathlib.Core.Bool.{cond}
 use mathlib.Core.Path.{_≡_}
 use mathlib.Core.List.{List}
 use lib.ListN.{length, replicate}

@@ -16,8 +16,8 @@ abbrev pub markBytes : ℕ
 markBytes = markCount / 8 + 1
 
 -- the place of an id's mark
-unfoldable pub placeOf : ℕ → ℕ
-placeOf id = id % markCount
+unfoldable pub markPlace : ℕ → ℕ
+markPlace id = id % markCount
 
 -- the mark at place p in the array a: 1 where it is made, else 0
 unfoldable pub markAt : List ℕ → ℕ → ℕ
@@ -29,7 +29,7 @@ markSet a p = set a (p / 8) (bitOr (getD a (p / 8) 0) (2 ^ (p % 8)))
 
 -- the place of the live row r is marked in the array a
 abbrev pub MarkedAt : View → List ℕ → ℕ → Type 0
-MarkedAt v a r = (codeOf v r ≡ 0 → ⊥) → markAt a (placeOf (idOf v r)) ≡ 1
+MarkedAt v a r = (codeOf v r ≡ 0 → ⊥) → markAt a (markPlace (idOf v r)) ≡ 1
 
 -- the places of all live rows below n are marked; others may be
 pub record Marked (v : View) (n : ℕ) (marks : List ℕ) : Type 0 where

@@ -1,6 +1,6 @@
 -- RULES 5: "A book is sound if 5.1 to 5.10 hold." One field or more for each of these rules, in their order.
 use Prim.Native.Nat.{ℕ, suc, _+_, _-_, _<_, _≤_}
-use mathlib.Core.Bool.{Bool, true, false}
+use mathlib.Core.Bool.{true, false}
 use mathlib.Core.Path.{_≡_}
 use lib.Bits.{bitOr}
 use lib.Dec.{eqb}

@@ -7,7 +7,7 @@ ghost use lib.ListN.{length, replicate};
 ghost use Rattle.tables.specs.Layout.{size, view, rowCount};
 ghost use Rattle.book.specs.Book.{idOf, labelOf, hasId};
 ghost use Rattle.book.specs.Test.{every, rangeN, rangeB, newB, idB, clearB, labelB, rowB, rowsB};
-ghost use Rattle.book.specs.Marks.{markCount, markBytes, placeOf, markAt, markSet, Marked};
+ghost use Rattle.book.specs.Marks.{markCount, markBytes, markPlace, markAt, markSet, Marked};
 use super::find::has_id;
 use super::kinds::CONTAINER;
 use super::kinds::FREE;
@@ -104,7 +104,7 @@ pub fn id_absent(b: &[u8], n: usize, id: u64) -> bool
 
 // The place of an id's mark.
 fn mark_of(id: u64) -> usize
-    ensures { λ n. ⌜ (n ≡ placeOf id) × (n < markCount) ⌝ }
+    ensures { λ n. ⌜ (n ≡ markPlace id) × (n < markCount) ⌝ }
 {
     (id % MARKS as u64) as usize
 }

@@ -2,13 +2,11 @@
 use Prim.Native.Nat.{ℕ, zero, suc, _+_, _*_, _-_, _/_, _%_, _<_, _≤_}
 use native.Mathlib.Decide.{ℕ-discrete}
 use native.Mathlib.Omega.{arith}
-use mathlib.Core.Bool.{Bool, true, false, cond}
-use mathlib.Core.Path.{_≡_, refl, sym, _∙_, ap, ap₂, subst}
-use mathlib.Core.List.{List}
-use lib.ListN.{length, getD}
+use mathlib.Core.Bool.{true}
+use mathlib.Core.Path.{_≡_, refl, sym, _∙_, ap, subst}
 use lib.Dec.{eqb}
 use borrow.Author.Tests.{eqb-true, eq-eqb}
-use Rattle.quotas.specs.Any.{both, both-of, both-parts}
+use Rattle.quotas.specs.Any.{both-of, both-parts}
 use Rattle.quotas.specs.Sum.{Σ, when, put, put-here, put-else, sum-change, sum-term, sum-only, found, when-true, when-false}
 use Rattle.rules.specs.Kernel.{segmentCode, blockSize}
 use Rattle.rules.specs.Laws.Bools.{not-i}

@@ -2,32 +2,30 @@
 use Prim.Native.Nat.{ℕ, _+_, _-_, _/_, _<_, _≤_}
 use native.Mathlib.Decide.{ℕ-discrete}
 use native.Mathlib.Omega.{arith}
-use mathlib.Core.Bool.{Bool, true, false, cond}
-use mathlib.Core.Path.{_≡_, refl, sym, _∙_, ap, subst}
+use mathlib.Core.Bool.{Bool}
+use mathlib.Core.Path.{_≡_, refl, sym, _∙_, ap}
 use mathlib.Core.List.{List}
 use lib.ListN.{length, getD, getD-replicate}
-use lib.Dec.{eqb, leb, ltb}
+use lib.Dec.{eqb, ltb}
 use borrow.Author.Tests.{eqb-true, eqb-false, ne-eqb, ltb-true, ltb-false}
 use Rattle.labels.specs.declared.Label.{Label}
 use Rattle.rules.specs.Kernel.{segmentCode, isSegment, Obj, Edit, relabel, fix, requota, rewrite, Change, keep, alter, create, cut, link, kept, blockSize}
 use Rattle.rules.specs.Fair.{Fair}
 use Rattle.rules.specs.Laws.Bools.{bool-cases}
-use Rattle.rules.specs.Laws.Kinds.{segment-live}
 use Rattle.tables.specs.Layout.{View, rowCount, blockCount}
-use Rattle.book.specs.Book.{nextOf, idOf, codeOf, lenOf, quotaOf, ownerOf, indexOf, blocksOf, rowOf, worldOf, onFound}
-use Rattle.book.specs.Sound.{Live, Used, Sound}
+use Rattle.book.specs.Book.{nextOf, idOf, codeOf, lenOf, quotaOf, ownerOf, indexOf, blocksOf, rowOf, worldOf}
+use Rattle.book.specs.Sound.{Live, Sound}
 use Rattle.book.specs.Placed.{Placed}
 use Rattle.book.specs.Shape.{Shape}
-use Rattle.book.specs.Clear.{ByteOf, Clear}
+use Rattle.book.specs.Clear.{Clear}
 use Rattle.book.specs.Enact.{areaSize, movedOn, relabelled, fixedAt, requotaed, freeRow, freeLink, rowFilled, linkFilled, cutView, cutArea, lengthened, areaAfter, alteredView, alteredArea, enactView, enactArea, startArea}
-use Rattle.book.specs.declared.Found.{Found}
 use Rattle.book.specs.declared.Found.the-variants.{At}
-use Rattle.book.specs.Laws.First.{found-cases, on-at, on-nothing, first-hit}
+use Rattle.book.specs.Laws.First.{found-cases, first-hit}
 use Rattle.book.specs.Laws.Tie.{row-is, segment-at, quota-at, code-live}
 use Rattle.book.specs.Laws.WorldSound.{placed}
 use Rattle.book.specs.Laws.Room.{freeBlocks, block-room}
 use Rattle.book.specs.Laws.Cleared.{if-true, if-false}
-use Rattle.book.specs.Laws.Blocks.{Held, held, place-back, positive}
+use Rattle.book.specs.Laws.Blocks.{held, place-back, positive}
 use Rattle.book.specs.Laws.Filled.{filled-len-other}
 use Rattle.book.specs.Laws.CutWorld.{cut-left, cut-left-bytes, left-true, left-some}
 use Rattle.book.specs.Laws.Lengthened.{lengthened-mine}

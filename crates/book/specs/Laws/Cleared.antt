@@ -1,5 +1,5 @@
 -- Runs of the data area that are set to zero, and blocks that are freed, as the loops do it.
-use Prim.Native.Nat.{ℕ, zero, suc, _+_, _*_, _-_, _/_, _%_, _<_, _≤_}
+use Prim.Native.Nat.{ℕ, suc, _+_, _*_, _-_, _/_, _%_, _<_, _≤_}
 use native.Mathlib.Decide.{ℕ-discrete}
 use native.Mathlib.Numerals.{add-one}
 use native.Mathlib.Omega.{arith}
@@ -7,7 +7,7 @@ use mathlib.Core.Bool.{Bool, true, false, cond}
 use mathlib.Core.Path.{_≡_, refl, sym, _∙_, ap, ap₂, subst}
 use mathlib.Core.List.{List}
 use lib.ListN.{length, getD, set, length-set, List·getD-eq-default}
-use lib.Seq.{ext-getD, getD-set-same, getD-set-other, set-out}
+use lib.Seq.{ext-getD, getD-set-same, getD-set-other}
 use lib.Dec.{eqb, leb, ltb}
 use borrow.Author.Tests.{le-leb, lt-ltb, le-ltb, ltb-true, ltb-false, leb-true, eq-eqb, ne-eqb}
 use Rattle.quotas.specs.Any.{no-both, both, both-of, both-parts}
@@ -15,7 +15,7 @@ use Rattle.rules.specs.Kernel.{blockSize}
 use Rattle.rules.specs.Laws.Bools.{bool-cases, not-i, same-by}
 use Rattle.tables.specs.Layout.{View, blockCount, onTab, putT}
 use Rattle.book.specs.declared.Found.the-variants.{At, Nothing}
-use Rattle.book.specs.Book.{lenOf, ownerOf, indexOf, blocksOf, isBlock, first, onFound, collect}
+use Rattle.book.specs.Book.{lenOf, ownerOf, indexOf, blocksOf, isBlock, first, collect}
 use Rattle.book.specs.Enact.{areaSize, lenT, ownerT, indexT, freeBlock, blockAdded, blocksAdded, blocksDropped, lengthened}
 use Rattle.book.specs.Resize.{cleared, blockCleared, isPast, blockDropped, blockWiped, droppedTo, wipedTo, freeCleared, freesCleared, edgeEnd, edgeCleared, betweenCleared, resizedArea}
 use Rattle.book.specs.Laws.First.{first-low, on-at, on-nothing, collect-length, collect-at, collect-is, collect-cong}

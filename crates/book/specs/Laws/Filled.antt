@@ -1,5 +1,5 @@
 -- A filled row: the new object stands in it, and every other row is as it was.
-use Prim.Native.Nat.{ℕ, _+_, _*_, _<_, _≤_}
+use Prim.Native.Nat.{ℕ, _*_, _<_}
 use native.Mathlib.Omega.{arith}
 use mathlib.Core.Bool.{Bool, true, false, cond}
 use mathlib.Core.Path.{_≡_, refl, sym, _∙_, ap, ap₂}
@@ -10,7 +10,7 @@ use lib.Dec.{eqb}
 use Rattle.labels.specs.declared.Label.{Label}
 use Rattle.labels.specs.Core.{wordCount}
 use Rattle.rules.specs.Kernel.{Kind, Obj, kindCode, isThread, isGate, isSegment, isContainer, hasClearance, blank, threadOf, gateOf, segmentOf, containerOf, textSize}
-use Rattle.tables.specs.Layout.{View, rowCount, putT, runT}
+use Rattle.tables.specs.Layout.{View, rowCount}
 use Rattle.book.specs.Book.{idOf, codeOf, maskOf, fixedOf, quotaOf, lenOf, entryOf, labelOf, clearanceOf, descriptionOf, closureOf, collect, placeOf, blockAt, bytesOf, kindFrom, objectAt}
 use Rattle.book.specs.Shape.{Shape}
 use Rattle.book.specs.Enact.{idT, kindT, maskT, fixedT, quotaT, lenT, entryT, descriptionT, closureT, padded, relabelled, rowFilled}

@@ -1,9 +1,9 @@
 -- New objects as they are handed over: what a filled row holds, and that the four kinds are handed over whole.
-use Prim.Native.Nat.{ℕ, _*_, _<_, _≤_}
+use Prim.Native.Nat.{ℕ, _*_, _<_}
 use native.Mathlib.Omega.{arith}
-use mathlib.Core.Path.{_≡_, refl, sym, _∙_}
-use mathlib.Core.List.{List, [], _++_}
-use lib.ListN.{length, replicate, take, length-replicate}
+use mathlib.Core.Path.{_≡_, refl, sym}
+use mathlib.Core.List.{List, []}
+use lib.ListN.{length, replicate, length-replicate}
 use lib.Seq.{take-at, take-all}
 use Rattle.labels.specs.declared.Label.{Label}
 use Rattle.labels.specs.Core.{wordCount, plain}

@@ -1,22 +1,22 @@
 -- The blocks of a book after a segment's length was changed: the segment has the blocks that its new length asks, every other keeps its own, and nothing else
 -- but the length is touched.
-use Prim.Native.Nat.{ℕ, zero, suc, _+_, _*_, _-_, _/_, _%_, _<_, _≤_}
+use Prim.Native.Nat.{ℕ, zero, suc, _+_, _*_, _-_, _/_, _<_, _≤_}
 use native.Mathlib.Decide.{ℕ-discrete}
 use native.Mathlib.Omega.{arith}
-use mathlib.Core.Bool.{Bool, true, false, cond}
+use mathlib.Core.Bool.{true, false, cond}
 use mathlib.Core.Logic.{⊎-elim, _⊎_, inl, inr}
-use mathlib.Core.Path.{_≡_, refl, sym, _∙_, ap, ap₂, subst}
+use mathlib.Core.Path.{_≡_, refl, sym, _∙_, ap, subst}
 use mathlib.Core.List.{List}
-use lib.ListN.{length, getD, set, replicate, length-set, length-replicate}
+use lib.ListN.{length, getD, replicate, length-set, length-replicate}
 use lib.Seq.{getD-set-same, getD-set-other}
 use lib.Dec.{eqb, leb}
-use borrow.Author.Tests.{eqb-true, eqb-false, eq-eqb, leb-true, leb-false, le-leb}
-use Rattle.quotas.specs.Any.{no-both, both, both-of, both-parts}
+use borrow.Author.Tests.{eqb-true, eq-eqb, leb-true, leb-false, le-leb}
+use Rattle.quotas.specs.Any.{no-both, both-of, both-parts}
 use Rattle.rules.specs.Kernel.{blockSize}
 use Rattle.rules.specs.Laws.Bools.{bool-cases, not-i}
 use Rattle.tables.specs.Layout.{View, blockCount, onTab, putT}
-use Rattle.book.specs.declared.Found.the-variants.{At, Nothing}
-use Rattle.book.specs.Book.{lenOf, ownerOf, indexOf, blocksOf, first, onFound, collect}
+use Rattle.book.specs.declared.Found.the-variants.{At}
+use Rattle.book.specs.Book.{lenOf, ownerOf, indexOf, blocksOf}
 use Rattle.book.specs.Enact.{areaSize, lenT, ownerT, indexT, freeBlock, blockAdded, blocksAdded, blocksDropped, lengthened}
 use Rattle.book.specs.Resize.{isPast, blockCleared, freeCleared, freesCleared}
 use Rattle.book.specs.Laws.First.{found-cases, first-hit, collect-length, collect-at, collect-is}

@@ -1,8 +1,8 @@
 -- A fair create and a fair link are made on the book: a row and a link are found, the world becomes the changed world, positions stay in order and
 -- tables keep their lengths.
-use Prim.Native.Nat.{ℕ, _+_, _-_, _≤_}
+use Prim.Native.Nat.{ℕ, _+_, _≤_}
 use native.Mathlib.Omega.{arith}
-use mathlib.Core.Bool.{true, false}
+use mathlib.Core.Bool.{true}
 use mathlib.Core.Path.{_≡_, sym, _∙_, ap, subst}
 use mathlib.Core.List.{List}
 use borrow.Author.Tests.{eqb-true}
@@ -16,7 +16,7 @@ use Rattle.book.specs.Sound.{Live, Sound}
 use Rattle.book.specs.Placed.{Placed}
 use Rattle.book.specs.Shape.{Shape}
 use Rattle.book.specs.Enact.{movedOn, freeRow, freeLink, rowFilled, linkFilled, enactView, enactArea}
-use Rattle.book.specs.Make.{placeFor, createdIn, linkedIn}
+use Rattle.book.specs.Make.{placeFor, createdIn}
 use Rattle.book.specs.Laws.Tie.{row-found, live-row, container-at}
 use Rattle.book.specs.Laws.WorldSound.{placed, world-sound}
 use Rattle.book.specs.Laws.Enacted.{Enacted}

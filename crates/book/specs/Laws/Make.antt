@@ -3,26 +3,25 @@
 use Prim.Native.Nat.{ℕ, suc, _+_, _-_, _<_, _≤_}
 use native.Mathlib.Decide.{ℕ-discrete}
 use native.Mathlib.Omega.{arith}
-use mathlib.Core.Bool.{Bool, true, false, not, _&&_, _||_}
+use mathlib.Core.Bool.{false, not, _&&_, _||_}
 use mathlib.Core.Path.{_≡_, refl, sym, _∙_, ap, ap₂, subst}
 use mathlib.Core.List.{List}
-use lib.ListN.{length, getD}
 use lib.Seq.{getD-set-same, getD-set-other}
 use lib.Dec.{eqb}
 use borrow.Author.Tests.{eqb-true, eq-eqb}
 use Rattle.quotas.specs.Any.{both, both-of, both-parts}
-use Rattle.rules.specs.Kernel.{segmentCode, containerCode, maxCode, Kind, absent, thread, gate, segment, container, Obj, World, kindCode, create, link, put, linkIn, apply, spareOf}
+use Rattle.rules.specs.Kernel.{segmentCode, containerCode, maxCode, Kind, absent, thread, gate, segment, container, Obj, kindCode, create, link, put, linkIn, apply, spareOf}
 use Rattle.rules.specs.Laws.Bools.{not-i, not-both, same-by}
 use Rattle.rules.specs.Laws.Put.{put-same, put-other, link-new, link-old, link-cases}
-use Rattle.tables.specs.Layout.{View, rowCount, linkCount, blockCount}
-use Rattle.book.specs.declared.Found.the-variants.{At, Nothing}
+use Rattle.tables.specs.Layout.{View, rowCount, linkCount}
+use Rattle.book.specs.declared.Found.the-variants.{At}
 use Rattle.book.specs.Book.{nextOf, rootOf, idOf, codeOf, fixedOf, lenOf, markOf, fromOf, toOf, ownerOf, indexOf, liveRow, blocksOf, placeOf, blockAt, bytesOf, objectAt, hasId, rowOf, worldOf}
 use Rattle.book.specs.Sound.{Live, On, Used, Owned, Sound, timesHeld}
 use Rattle.book.specs.Placed.{Placed}
 use Rattle.book.specs.Shape.{Shape}
 use Rattle.book.specs.Enact.{linkFromT, linkToT, movedOn, relabelled, freeRow, freeLink, rowFilled, linkFilled}
 use Rattle.book.specs.Laws.First.{first-only, first-cong, first-hit, found-cases}
-use Rattle.book.specs.Laws.Tie.{test-live, live-test, row-is, row-none, no-row, obj-found, obj-missing, linked-at, linked-is, rows-linked}
+use Rattle.book.specs.Laws.Tie.{test-live, live-test, row-is, obj-found, obj-missing, linked-at, linked-is, rows-linked}
 use Rattle.book.specs.Laws.WorldSound.{placed}
 use Rattle.book.specs.Laws.Room.{spare-row-room, spare-link-room}
 use Rattle.book.specs.Laws.Worlds.{world-ext}

@@ -17,7 +17,7 @@ use Rattle.quotas.specs.Any.{both-parts}
 use Rattle.tables.specs.Layout.{View}
 use Rattle.book.specs.Book.{idOf, codeOf, liveRow, hasId}
 use Rattle.book.specs.Test.{newB}
-use Rattle.book.specs.Marks.{markCount, markBytes, placeOf, markAt, markSet, MarkedAt, Marked}
+use Rattle.book.specs.Marks.{markCount, markBytes, markPlace, markAt, markSet, MarkedAt, Marked}
 use Rattle.book.specs.Laws.Tests.{not-by, not-of, no-true, every-by}
 use Rattle.book.specs.Laws.Tally.{zeros-long}
 
@@ -78,19 +78,19 @@ module _ (v : View) (n : ℕ) (a : List ℕ) (s : Marked v n a) where
   marked-free e = record { marks-long = s .marks-long; marked = more (λ live. absurd (live e)) }
 
   -- A place that is marked already.
-  pub marked-again : (k : ℕ) → k ≡ placeOf (idOf v n) → markAt a k ≡ 1 → Marked v (n + 1) a
+  pub marked-again : (k : ℕ) → k ≡ markPlace (idOf v n) → markAt a k ≡ 1 → Marked v (n + 1) a
   marked-again k e t = record { marks-long = s .marks-long; marked = more (λ live. ap (markAt a) (sym e) ∙ t) }
 
   -- A place that is not: it is marked now,
-  pub marked-more : (k : ℕ) → k ≡ placeOf (idOf v n) → k < markCount → Marked v (n + 1) (markSet a k)
+  pub marked-more : (k : ℕ) → k ≡ markPlace (idOf v n) → k < markCount → Marked v (n + 1) (markSet a k)
   marked-more k e low =
       let byte : k / 8 < length a = omega (arith, s .marks-long) in
       record {
         marks-long = long ∙ s .marks-long;
         marked = λ r l.
             ⊎-elim
-            (λ q live. ap (markAt (markSet a k)) (ap (λ (x : ℕ). placeOf (idOf v x)) q ∙ sym e) ∙ made a k byte)
-            (λ h live. kept a k byte (placeOf (idOf v r)) (s .marked r h live))
+            (λ q live. ap (markAt (markSet a k)) (ap (λ (x : ℕ). markPlace (idOf v x)) q ∙ sym e) ∙ made a k byte)
+            (λ h live. kept a k byte (markPlace (idOf v r)) (s .marked r h live))
             (eq-or-lt-of-le {n = r} {m = n} (omega arith));
       }
     where
@@ -98,11 +98,11 @@ module _ (v : View) (n : ℕ) (a : List ℕ) (s : Marked v n a) where
       long = unfold markSet in (length-set a (k / 8) _)
 
   -- and no live row below has the id.
-  pub unmarked-new : (k : ℕ) → k ≡ placeOf (idOf v n) → eqb (markAt a k) 1 ≡ false → newB v n ≡ true
+  pub unmarked-new : (k : ℕ) → k ≡ markPlace (idOf v n) → eqb (markAt a k) 1 ≡ false → newB v n ≡ true
   unfolding newB
   unmarked-new k e off =
       every-by n (λ r. not (hasId v (idOf v n) r)) (λ r l. not-by (hasId v (idOf v n) r) (λ h.
       let (live, same) = both-parts (liveRow v r) (eqb (idOf v r) (idOf v n)) h in
       let q = eqb-true (idOf v r) (idOf v n) same in
-      let on : markAt a k ≡ 1 = ap (markAt a) (e ∙ ap placeOf (sym q)) ∙ s .marked r l (λ c. not-of (eqb (codeOf v r) 0) live (eq-eqb (codeOf v r) 0 c)) in
+      let on : markAt a k ≡ 1 = ap (markAt a) (e ∙ ap markPlace (sym q)) ∙ s .marked r l (λ c. not-of (eqb (codeOf v r) 0) live (eq-eqb (codeOf v r) 0 c)) in
       no-true (sym off ∙ eq-eqb (markAt a k) 1 on)))

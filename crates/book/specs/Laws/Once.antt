@@ -6,10 +6,10 @@ use mathlib.Core.Path.{_≡_, refl, sym, _∙_, ap}
 use lib.Dec.{eqb}
 use borrow.Author.Tests.{ne-eqb, lt-leb}
 use Rattle.quotas.specs.Any.{any}
-use Rattle.quotas.specs.Sum.{Σ, when, sum-term}
+use Rattle.quotas.specs.Sum.{when, sum-term}
 use Rattle.tables.specs.Layout.{View, rowCount, linkCount}
 use Rattle.book.specs.Book.{rootOf, markOf, toOf, liveLink, hasId}
-use Rattle.book.specs.Sound.{On, linksTo, chargedTo}
+use Rattle.book.specs.Sound.{linksTo, chargedTo}
 use Rattle.book.specs.Test.{every, linkB, sameB, onceB, tieB, linksB}
 use Rattle.book.specs.Tally.{linksBelow, tallyB}
 use Rattle.book.specs.Laws.Tests.{and-l, and-r, and-fails, every-fails}

@@ -1,6 +1,6 @@
 -- Where a new row and a new link go: one law for each way out, and that this is how the rules' changes are made.
 use Prim.Native.Nat.{ℕ, _<_, _≤_}
-use mathlib.Core.Path.{_≡_, refl, sym, _∙_, subst}
+use mathlib.Core.Path.{_≡_, refl, sym, subst}
 use mathlib.Core.List.{List}
 use lib.Dec.{eqb}
 use Rattle.rules.specs.Kernel.{Obj, create, link, lastNumber}
@@ -10,7 +10,7 @@ use Rattle.book.specs.declared.Found.the-variants.{At, Nothing}
 use Rattle.book.specs.Book.{nextOf, codeOf, markOf, onFound, rowOf}
 use Rattle.book.specs.Enact.{movedOn, relabelled, freeRow, freeLink, rowFilled, linkFilled, enactView}
 use Rattle.book.specs.Make.{placedIn, placeFor, createdIn, linkedIn}
-use Rattle.book.specs.Laws.First.{first-low, on-at}
+use Rattle.book.specs.Laws.First.{first-low}
 
 -- What is found is a row,
 pub free-row-low : (v : View) (r : ℕ) → freeRow v ≡ At r → r < rowCount

@@ -1,35 +1,35 @@
 -- A resize, step by step, leaves the data area as the change asks it: bytes that stay are as they were, freed and new bytes are zero, and other segments'
 -- bytes are untouched.
-use Prim.Native.Nat.{ℕ, suc, _+_, _*_, _-_, _/_, _%_, _<_, _≤_}
+use Prim.Native.Nat.{ℕ, _+_, _*_, _-_, _/_, _%_, _<_, _≤_}
 use native.Mathlib.Decide.{ℕ-discrete}
 use native.Mathlib.Omega.{arith}
-use mathlib.Core.Bool.{Bool, true, false}
+use mathlib.Core.Bool.{false}
 use mathlib.Core.Logic.{⊎-elim}
 use mathlib.Core.Path.{_≡_, refl, sym, _∙_, ap, subst}
 use mathlib.Core.List.{List}
 use lib.ListN.{length, getD, List·getD-eq-default}
 use lib.Dec.{eqb, leb, ltb}
-use borrow.Author.Tests.{eqb-true, leb-true, leb-false, ltb-true, ltb-false, le-leb, lt-leb}
+use borrow.Author.Tests.{eqb-true, leb-true, leb-false, ltb-true, ltb-false, lt-leb}
 use Rattle.quotas.specs.Any.{no-both, both-parts}
 use Rattle.rules.specs.Kernel.{segmentCode, blockSize, rewrite, alter, resized, apply, units}
 use Rattle.rules.specs.Laws.Bools.{bool-cases}
 use Rattle.rules.specs.Laws.Bytes.{resized-at}
 use Rattle.rules.specs.Laws.Lengths.{resized-length}
 use Rattle.tables.specs.Layout.{View, rowCount, blockCount}
-use Rattle.book.specs.declared.Found.the-variants.{At, Nothing}
-use Rattle.book.specs.Book.{idOf, codeOf, quotaOf, lenOf, ownerOf, indexOf, blocksOf, isBlock, first, placeOf, bytesOf, rowOf, worldOf}
+use Rattle.book.specs.declared.Found.the-variants.{At}
+use Rattle.book.specs.Book.{idOf, codeOf, quotaOf, lenOf, ownerOf, indexOf, blocksOf, isBlock, first, bytesOf, rowOf, worldOf}
 use Rattle.book.specs.Sound.{Live, Sound}
 use Rattle.book.specs.Placed.{Placed}
 use Rattle.book.specs.Shape.{Shape}
-use Rattle.book.specs.Enact.{areaSize, movedOn, blocksAdded, blocksDropped, lengthened, byteAfter, areaAfter, alteredView, alteredArea, enactView, enactArea}
-use Rattle.book.specs.Resize.{isPast, wipedTo, freesCleared, edgeEnd, edgeCleared, betweenCleared, resizedArea}
+use Rattle.book.specs.Enact.{areaSize, movedOn, blocksDropped, lengthened, byteAfter, areaAfter, alteredView, alteredArea, enactView, enactArea}
+use Rattle.book.specs.Resize.{isPast, wipedTo, edgeEnd, edgeCleared, betweenCleared, resizedArea}
 use Rattle.book.specs.Laws.First.{found-cases, first-hit, on-at, collect-is}
 use Rattle.book.specs.Laws.Tie.{code-live, row-found, bytes-length}
 use Rattle.book.specs.Laws.WorldSound.{placed}
 use Rattle.book.specs.Laws.Room.{freeBlocks, block-room}
 use Rattle.book.specs.Laws.Cleared.{if-true, if-false, cleared-length, cleared-in, cleared-out, wiped-length, wiped-in, wiped-out, edge-span, edge-at, edge-nothing, between-less, between-more}
 use Rattle.book.specs.Laws.Blocks.{Held, held, held-found, test-block, place-back}
-use Rattle.book.specs.Laws.Lengthened.{drop-out, drop-keep, drop-index, drop-long, is-past, Kept, New, added-each, added-area-long}
+use Rattle.book.specs.Laws.Lengthened.{drop-out, drop-keep, drop-index, drop-long, is-past, added-each, added-area-long}
 use Rattle.book.specs.Laws.Rewrite.{spot, byte-mine, byte-stays, byte-freed, byte-new, byte-gone, byte-else, byte-of, lengthened-placed, lengthened-shape, rewritten-world}
 
 -- ---- the block in which the shorter length ends

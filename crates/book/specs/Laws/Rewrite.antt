@@ -1,11 +1,10 @@
 -- A segment's bytes are rewritten, its length with them: the world of the changed book is the change applied to the world.
-use Prim.Native.Nat.{ℕ, suc, _+_, _*_, _-_, _/_, _%_, _<_, _≤_}
+use Prim.Native.Nat.{ℕ, _+_, _*_, _-_, _/_, _%_, _<_, _≤_}
 use native.Mathlib.Decide.{ℕ-discrete}
 use native.Mathlib.Numerals.{add-one}
 use native.Mathlib.Omega.{arith}
-use mathlib.Core.Bool.{Bool, true, false, cond}
-use mathlib.Core.Path.{_≡_, refl, sym, _∙_, ap, ap₂, subst}
-use mathlib.Core.List.{List, []}
+use mathlib.Core.Path.{_≡_, refl, sym, _∙_, ap, subst}
+use mathlib.Core.List.{List}
 use lib.ListN.{length, getD}
 use lib.Seq.{getD-set-same, getD-set-other}
 use lib.Dec.{eqb}
@@ -15,18 +14,16 @@ use Rattle.rules.specs.Kernel.{segmentCode, blockSize, rewrite, alter, edit, pu
 use Rattle.rules.specs.Laws.Bools.{bool-cases}
 use Rattle.rules.specs.Laws.Put.{put-same, put-other}
 use Rattle.tables.specs.Layout.{View, rowCount, blockCount, onTab}
-use Rattle.book.specs.declared.Found.the-variants.{At, Nothing}
-use Rattle.book.specs.Book.{nextOf, idOf, codeOf, lenOf, ownerOf, indexOf, blocksOf, blockAt, placeOf, collect, bytesOf, objectAt, rowOf, worldOf}
+use Rattle.book.specs.Book.{nextOf, idOf, codeOf, lenOf, ownerOf, indexOf, blocksOf, blockAt, placeOf, bytesOf, objectAt, rowOf, worldOf}
 use Rattle.book.specs.Sound.{Live, Used, Owned, timesHeld}
 use Rattle.book.specs.Placed.{Placed}
 use Rattle.book.specs.Shape.{Shape}
 use Rattle.book.specs.Enact.{areaSize, lenT, ownerT, indexT, movedOn, lengthened, byteAfter, areaAfter}
-use Rattle.book.specs.Laws.First.{found-cases, collect-length, collect-at, collect-is}
+use Rattle.book.specs.Laws.First.{found-cases, collect-at, collect-is}
 use Rattle.book.specs.Laws.Tie.{same-row, row-is, row-none, object-bytes, object-no-bytes, bytes-length, obj-found, obj-missing, obj-at}
 use Rattle.book.specs.Laws.Room.{freeBlocks}
 use Rattle.book.specs.Laws.Shapes.{on-shape, put-shape}
 use Rattle.book.specs.Laws.Worlds.{world-ext, obj-ext}
-use Rattle.book.specs.Laws.Cleared.{if-true, if-false}
 use Rattle.book.specs.Laws.Blocks.{Held, positive, held, held-once, held-at, at-low, at-owner, at-index, place-low, place-block, place-rest}
 use Rattle.book.specs.Laws.Lengthened.{reblocked, relong, lengthened-is, lengthened-owner-long, lengthened-index-long, lengthened-held, Others, lengthened-others}
 

@@ -1,5 +1,5 @@
 -- The world of a sound book is sound.
-use Prim.Native.Nat.{ℕ, suc, _*_, _-_, _<_, _≤_}
+use Prim.Native.Nat.{ℕ, suc, _*_, _<_, _≤_}
 use native.Mathlib.Nat.{mul-le-mul-right, suc-mul}
 use native.Mathlib.Omega.{arith}
 use mathlib.Core.Bool.{true, false}

@@ -1,30 +1,28 @@
 -- Bytes written into part of a block, and read from it: a write of the area is a write of the segment, and a read is that part of the area itself.
-use Prim.Native.Nat.{ℕ, suc, _+_, _*_, _-_, _/_, _%_, _<_, _≤_}
+use Prim.Native.Nat.{ℕ, _+_, _*_, _-_, _/_, _<_, _≤_}
 use native.Mathlib.Decide.{ℕ-discrete}
 use native.Mathlib.Omega.{arith}
-use mathlib.Core.Bool.{Bool, true, false, _&&_}
-use mathlib.Core.Path.{_≡_, refl, sym, _∙_, ap, ap₂, subst}
+use mathlib.Core.Bool.{false, _&&_}
+use mathlib.Core.Path.{_≡_, sym, _∙_, ap, subst}
 use mathlib.Core.List.{List, append-assoc}
-use lib.ListN.{length, getD, take, drop, set, length-drop}
+use lib.ListN.{length, getD, take, drop, length-drop}
 use lib.Seq.{sets, length-sets, sets-eq, set-getD, getD-take, getD-drop, length-take-le, ext-getD}
 use lib.Dec.{leb, ltb}
-use borrow.Author.Tests.{leb-true, leb-false, ltb-true, ltb-false, le-leb, lt-ltb}
+use borrow.Author.Tests.{leb-true, ltb-true, ltb-false, le-leb, lt-ltb}
 use Rattle.quotas.specs.Any.{no-both}
 use Rattle.rules.specs.Kernel.{segmentCode, blockSize, rewrite, alter, overwrite, apply}
 use Rattle.rules.specs.Laws.Bools.{bool-cases, and-l, and-r, and-i, not-i}
 use Rattle.rules.specs.Laws.Bytes.{overwrite-at, overwrite-length}
 use Rattle.tables.specs.Layout.{View, blockCount, onTab, putT}
-use Rattle.book.specs.declared.Found.the-variants.{At, Nothing}
-use Rattle.book.specs.Book.{idOf, codeOf, lenOf, ownerOf, indexOf, blocksOf, isBlock, first, onFound, blockAt, placeOf, bytesOf, rowOf, worldOf}
+use Rattle.book.specs.Book.{idOf, codeOf, lenOf, ownerOf, indexOf, blocksOf, isBlock, first, blockAt, placeOf, bytesOf, rowOf, worldOf}
 use Rattle.book.specs.Sound.{Live}
 use Rattle.book.specs.Placed.{Placed}
 use Rattle.book.specs.Shape.{Shape}
 use Rattle.book.specs.Enact.{areaSize, lenT, movedOn, blocksAdded, blocksDropped, lengthened, byteAfter, areaAfter, alteredView, alteredArea, enactView, enactArea}
 use Rattle.book.specs.Laws.First.{found-cases, first-low, on-at, on-nothing, collect-is}
 use Rattle.book.specs.Laws.Tie.{row-found, bytes-length}
-use Rattle.book.specs.Laws.Room.{freeBlocks}
 use Rattle.book.specs.Laws.Cleared.{if-true, if-false}
-use Rattle.book.specs.Laws.Blocks.{Held, held, held-at, at-owner, at-index, place-back}
+use Rattle.book.specs.Laws.Blocks.{held, held-at, at-owner, at-index, place-back}
 use Rattle.book.specs.Laws.Lengthened.{dropped-same}
 use Rattle.book.specs.Laws.Rewrite.{spot, byte-mine, byte-stays, byte-else, byte-of, rewritten-world}
 

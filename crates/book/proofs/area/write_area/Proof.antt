@@ -4,7 +4,7 @@ use native.Mathlib.Numerals.{add-one}
 use native.Mathlib.Omega.{arith}
 use mathlib.Core.List.{List, _++_}
 use lib.ListN.{length, getD, set, take, drop, length-set}
-use lib.Seq.{sets, sets-eq, paste, paste-zero, paste-suc, take-all}
+use lib.Seq.{sets-eq, paste, paste-zero, paste-suc, take-all}
 use Rattle.book.proofs.area.write_area.Statement.{statement}
 use Rattle.book.proofs.area.write_area.Tie as tie
 

@@ -1,10 +1,10 @@
 use borrow.Author.Needs.{needs}
 use Prim.Native.Nat.{ℕ, _+_}
 use mathlib.Core.Path.{_∙_, ap}
-use lib.Dec.{eqb, leb}
+use lib.Dec.{eqb}
 use Rattle.quotas.specs.Any.{both}
 use Rattle.tables.specs.Layout.{view}
-use Rattle.book.specs.Book.{ownerOf, indexOf}
+use Rattle.book.specs.Book.{indexOf}
 use Rattle.book.specs.Laws.Cleared.{one-off, one-on}
 use Rattle.book.proofs.blocks.is_block.Statement.{statement}
 use Rattle.book.proofs.blocks.is_block.Tie as tie

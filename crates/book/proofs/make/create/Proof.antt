@@ -1,6 +1,6 @@
 use Prim.Native.Nat.{_≤_}
 use native.Mathlib.Omega.{arith}
-use mathlib.Core.Path.{_≡_, sym, ap, _∙_, subst}
+use mathlib.Core.Path.{sym, ap, _∙_, subst}
 use Rattle.rules.specs.Kernel.{lastNumber}
 use Rattle.tables.specs.Layout.{View, view}
 use Rattle.book.specs.Book.{nextOf}

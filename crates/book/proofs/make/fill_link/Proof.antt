@@ -1,4 +1,4 @@
-use mathlib.Core.Path.{_≡_, ap, _∙_}
+use mathlib.Core.Path.{ap, _∙_}
 use Rattle.tables.specs.Layout.{putT}
 use Rattle.book.specs.Enact.{linkToT, linkFilled}
 use borrow.Author.Needs.{needs}

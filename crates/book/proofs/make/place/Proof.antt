@@ -1,6 +1,6 @@
 use Prim.Native.Nat.{ℕ}
 use native.Mathlib.Omega.{arith}
-use mathlib.Core.Path.{_≡_, sym, ap, _∙_}
+use mathlib.Core.Path.{sym, ap, _∙_}
 use Rattle.tables.specs.Layout.{view}
 use Rattle.book.specs.Enact.{rowFilled, linkFilled}
 use Rattle.book.specs.Make.{objectOf}

@@ -4,7 +4,7 @@ use mathlib.Core.Path.{_∙_, ap}
 use lib.Dec.{eqb, leb}
 use Rattle.quotas.specs.Any.{both}
 use Rattle.tables.specs.Layout.{view}
-use Rattle.book.specs.Book.{ownerOf, indexOf}
+use Rattle.book.specs.Book.{indexOf}
 use Rattle.book.specs.Laws.Cleared.{one-off, one-on}
 use Rattle.book.proofs.resize.is_past.Statement.{statement}
 use Rattle.book.proofs.resize.is_past.Tie as tie

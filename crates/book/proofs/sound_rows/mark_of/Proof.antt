@@ -1,5 +1,5 @@
 use borrow.Author.Needs.{needs}
-use Rattle.book.specs.Marks.{placeOf}
+use Rattle.book.specs.Marks.{markPlace}
 use Rattle.book.proofs.sound_rows.mark_of.Statement.{statement}
 use Rattle.book.proofs.sound_rows.mark_of.Tie as tie
 
@@ -7,7 +7,7 @@ rem-result : tie.Need-rem-result
 rem-result c = search needs
 
 returns : tie.Need-returns
-unfolding placeOf
+unfolding markPlace
 returns c = search needs
 
 pub mark-of-spec : {M : Type 1} → statement M

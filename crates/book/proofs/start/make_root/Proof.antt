@@ -1,5 +1,5 @@
 use native.Mathlib.Omega.{arith}
-use mathlib.Core.Path.{_≡_, sym, ap, ap₂, _∙_, subst}
+use mathlib.Core.Path.{sym, ap, ap₂, _∙_, subst}
 use lib.ListN.{replicate}
 use Rattle.rules.specs.Kernel.{textSize}
 use Rattle.book.specs.declared.make.NewRow.{NewRow}
