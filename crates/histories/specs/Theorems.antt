@@ -7,7 +7,7 @@ use mathlib.Core.Path.{_≡_, refl, sym, ap, subst, _∙_}
 use mathlib.Core.List.{List, [], _∷_}
 use lib.ListN.{length, getD}
 use lib.Dec.{eqb, leb}
-use borrow.Author.Tests.{eqb-true, eq-eqb}
+use borrow.Author.Tests.{eqb-true}
 use Rattle.quotas.specs.Sum.{Σ, when}
 use Rattle.rules.specs.Kernel.{World, Call, read, resize, isLive, isContainer, isSegment, units, holdOf, spareOf, startable, call, after, answerOf, valueOf, Verdict, History, beginning, start, started, next, worldAfter, blockSize}
 use Rattle.rules.specs.Answers.{oneOf}
@@ -29,9 +29,8 @@ use Rattle.tables.specs.Layout.{View, view, size}
 use Rattle.tables.specs.Layout.Only.{view-only}
 use Rattle.book.specs.Book.{worldOf}
 use Rattle.book.specs.Enact.{areaSize, startView}
-use Rattle.book.specs.Test.{areasB}
 use Rattle.book.specs.Laws.Clear.{wiped-clear}
-use Rattle.book.specs.Laws.Means.{sound-means}
+use Rattle.book.specs.Laws.Means.{areas-mean}
 use Rattle.book.specs.Laws.WorldSound.{placed}
 use Rattle.calls.specs.Outcome.{verdictOn, bookLeft, areaLeft, outputLeft}
 use Rattle.calls.specs.Started.{lengthsRight, startAnswer}
@@ -69,9 +68,8 @@ start-refuses b area f answer b′ area′ s n =
 -- ---- Demand 2
 
 pub demand-2 : the.Demand2
-unfolding areasB
 demand-2 b area l m sound c x out answer value b′ area′ out′ d =
-    ruled-on b area (rw (eq-eqb (length b) size l, eq-eqb (length area) areaSize m) (sound-means (view b) .1 sound)) c x out answer value b′ area′ out′ d
+    ruled-on b area (areas-mean b area .1 (l, m, sound)) c x out answer value b′ area′ out′ d
 
 pub spells-the-world : the.SpellsTheWorld
 spells-the-world h b area a = spelled h b area a .spells

@@ -17,7 +17,7 @@ use Rattle.book.specs.Enact.{areaSize, startArea}
 use Rattle.book.specs.Sound.{Sound}
 use Rattle.book.specs.Test.{areasB}
 use Rattle.book.specs.Laws.Clear.{Wiped, start-wiped}
-use Rattle.book.specs.Laws.Means.{sound-means}
+use Rattle.book.specs.Laws.Means.{areas-mean}
 use Rattle.book.specs.Laws.Start as book
 use Rattle.book.specs.Laws.Start.{start-world}
 use Rattle.calls.specs.Outcome.{verdictOn, outputLeft, Left}
@@ -59,13 +59,11 @@ module _ (b area : List ℕ) (f : ℕ) (b′ area′ : List ℕ) (s : calls.Star
   area-long = ap length (s .area-made (sym (s .answer))) ∙ length-replicate {A = ℕ} areaSize 0
 
   begun-spelled : Spelled (started f) b′ area′
-  unfolding firstWorld worldAfter areasB
+  unfolding firstWorld worldAfter
   begun-spelled =
       record {
         started-well = start-is-sound f (granted .1);
-        good =
-            rw (eq-eqb (length b′) size book-long, eq-eqb (length area′) areaSize area-long)
-            (sound-means (view b′) .1 (subst Sound (sym (s .book-made (sym (s .answer)))) (book.start-is-sound f (granted .1))));
+        good = areas-mean b′ area′ .1 (book-long, area-long, subst Sound (sym (s .book-made (sym (s .answer)))) (book.start-is-sound f (granted .1)));
         spells = ap₂ worldOf (s .book-made (sym (s .answer))) (s .area-made (sym (s .answer))) ∙ start-world f;
         wiped = subst (Wiped (view b′)) (sym (s .area-made (sym (s .answer)))) (start-wiped (view b′));
         bytes = whole;
