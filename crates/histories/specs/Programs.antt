@@ -1,5 +1,5 @@
--- Four programs must be unable to satisfy the contracts: a kernel that always refuses, one that answers 0 to all, one that changes nothing, and one that honours the first
--- create and only pretends afterwards. Each is a kind of program, and of each is said: no program that ends on everything it can be handed, and meets the contracts of the
+-- RULES 11.3: "The contracts cannot be met by a kernel that refuses everything, by one that answers 0 to everything, by one that changes nothing, or by one that does its first
+-- create and from then on only pretends." Each is a kind of program, and of each is said: no program that ends on everything it can be handed, and meets the contracts of the
 -- exported functions, is of that kind. Start is part of the program, so it makes its areas itself. Unable has the proofs.
 use Prim.Native.Nat.{ℕ, _<_, _^_}
 use mathlib.Core.Bool.{Bool, true, false, _&&_, _||_}
@@ -61,7 +61,7 @@ pub record Meets (p : Program) : Type 0 where
   pub call-meets : (b area : List ℕ) (c : ℕ) (x : Call) (out : List ℕ) (answer value : ℕ) (b′ area′ out′ : List ℕ) → p .does b area c x out answer value b′ area′ out′
       → Called b area c x out answer value b′ area′ out′
 
--- ---- "a kernel that always refuses"
+-- ---- "a kernel that refuses everything"
 
 abbrev pub AlwaysRefuses : Program → Type 0
 AlwaysRefuses p =
@@ -70,7 +70,7 @@ AlwaysRefuses p =
 abbrev pub NotAlwaysRefuses : Type 1
 NotAlwaysRefuses = (p : Program) → Ends p → Meets p → AlwaysRefuses p → ⊥
 
--- ---- "and one that answers 0 to all"
+-- ---- "one that answers 0 to everything"
 
 abbrev pub AnswersZero : Program → Type 0
 AnswersZero p =
@@ -79,7 +79,7 @@ AnswersZero p =
 abbrev pub NotAnswersZero : Type 1
 NotAnswersZero = (p : Program) → Ends p → Meets p → AnswersZero p → ⊥
 
--- ---- "one that changes nothing (the links and bytes of demand 2)"
+-- ---- "one that changes nothing"
 
 -- it may even move its number on
 abbrev pub ChangesNothing : Program → Type 0
@@ -90,7 +90,7 @@ ChangesNothing p =
 abbrev pub NotChangesNothing : Type 1
 NotChangesNothing = (p : Program) → Ends p → Meets p → ChangesNothing p → ⊥
 
--- ---- "one that honours the first create and only pretends afterwards (the history in demand 3)"
+-- ---- "one that does its first create and from then on only pretends"
 
 -- a create was granted in the history
 unfoldable pub hasCreated : History → Bool
