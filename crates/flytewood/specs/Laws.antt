@@ -8,7 +8,7 @@ use lib.Dec.{eqb}
 use borrow.Author.Tests.{eqb-true}
 use mir.Syntax.{w8}
 use mir.Val.{Fits}
-use Rattle.rules.specs.Kernel.{Call, Verdict, refuse, grant, answerOf, valueOf, outputOf}
+use Rattle.rules.specs.Kernel.{Call, Verdict, refused, grant, answerOf, valueOf, outputOf}
 use Rattle.rules.specs.Answers.{outputSize}
 use Rattle.rules.specs.Laws.Bools.{bool-cases}
 use Rattle.rules.specs.Theorems.Outputs.{no-output}
@@ -40,7 +40,7 @@ starts b area f answer b′ area′ s t u = record { made = s; book-bytes = type
 -- what an empty output becomes is the rules' output
 pub handed-out : (v : Verdict) → outputLeft v [] ≡ outputOf v
 unfolding outputLeft outputOf
-handed-out (refuse k) = refl
+handed-out (refused r) = refl
 handed-out (grant v o h) = refl
 
 module _ (b area : List ℕ) (c : ℕ) (x : Call) (r : Answer) (b′ area′ : List ℕ) (answer value : ℕ) (e : answer ≡ numberOf r) (f : value ≡ valueIn r)
