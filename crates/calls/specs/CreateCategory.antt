@@ -16,7 +16,7 @@ abbrev pub clearsB : Label → Bool
 clearsB c = eqb (c .default) level3 || hasRoom c
 
 -- the caller, at row t, takes star at the category of the call's number, and clearance 3 there
-pub record ToOwn (b area : List ℕ) (c t i j : ℕ) : Type 0 where
+pub record ToOwn (b area : List ℕ) (c t i : ℕ) : Type 0 where
   pub room : hasRoom (labelOf (view b) t) ≡ true
   pub clears : clearsB (clearanceOf (view b) t) ≡ true
   pub relabels : Relabels b area c createCategory (nextOf (view b)) [] (withPair (nextOf (view b)) star (labelOf (view b) t)) (clearedAt (nextOf (view b)) (clearanceOf (view b) t)) t

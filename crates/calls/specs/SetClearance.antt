@@ -10,6 +10,6 @@ use Rattle.book.specs.Book.{labelOf}
 use Rattle.calls.specs.Relabel.{Relabels}
 
 -- the caller, at row t, keeps its label and takes the clearance that l spells
-pub record ToSetClearance (b area : List ℕ) (c : ℕ) (l : List ℕ) (t i j : ℕ) : Type 0 where
+pub record ToSetClearance (b area : List ℕ) (c : ℕ) (l : List ℕ) (t i : ℕ) : Type 0 where
   pub long : length l ≡ label.labelSize
   pub relabels : Relabels b area c (setClearance l) 0 [] (labelOf (view b) t) (label.labelOf l) t

@@ -10,6 +10,6 @@ use Rattle.book.specs.Book.{clearanceOf}
 use Rattle.calls.specs.Relabel.{Relabels}
 
 -- the caller, at row t, takes the label that l spells and keeps its clearance
-pub record ToSetLabel (b area : List ℕ) (c : ℕ) (l : List ℕ) (t i j : ℕ) : Type 0 where
+pub record ToSetLabel (b area : List ℕ) (c : ℕ) (l : List ℕ) (t i : ℕ) : Type 0 where
   pub long : length l ≡ label.labelSize
   pub relabels : Relabels b area c (setLabel l) 0 [] (label.labelOf l) (clearanceOf (view b) t) t

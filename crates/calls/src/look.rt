@@ -14,7 +14,9 @@ ghost use Rattle.calls.specs.Outcome.{Done, verdictOn, outputLeft};
 use super::Answer;
 use super::Begun;
 use super::Judged;
+use super::Refusal;
 use super::begin::begin;
+use super::leave::leave;
 use super::lookup::open_container;
 use super::lookup::open_entry;
 use book::Found;
@@ -57,16 +59,15 @@ fn judge(b: &[u8], area: &[u8], caller: u64, d: u64, o: u64, n: usize) -> Judged
 {
     let t = match begin(b, area, caller) {
         Begun::By(t) => t,
-        Begun::Nobody => return Judged::No(3),
-        Begun::Stopped(k) => return Judged::Stop(k),
+        Begun::Not(r) => return Judged::No(r),
     };
     if n != LOOK_SIZE {
-        return Judged::No(4);
+        return Judged::No(Refusal::BadArgument);
     }
-    let Entry::In { object, link, .. } = open_look(b, t, d, o) else {
-        return Judged::No(5);
+    let Entry::In { object, .. } = open_look(b, t, d, o) else {
+        return Judged::No(Refusal::NoEntry);
     };
-    Judged::Go(t, object, link)
+    Judged::Go(t, object)
 }
 
 // ---- what is put out
@@ -142,15 +143,11 @@ pub fn look(b: &mut [u8], area: &mut [u8], caller: u64, d: u64, o: u64, out: &mu
 {
     let n = out.len();
     match judge(b, area, caller, d, o, n) {
-        Judged::Go(t, r, _) => {
+        Judged::Go(t, r) => {
             look_into(b, t, r, out);
             move_on(b);
             Answer::Granted(0)
         }
-        Judged::No(k) => {
-            move_on(b);
-            return Answer::Refused(k);
-        }
-        Judged::Stop(k) => return Answer::Refused(k),
+        Judged::No(r) => return leave(b, r),
     }
 }

@@ -93,7 +93,7 @@ module _ (b area : List ℕ) (c t : ℕ) (by : Caller b area c t) where
     clearance-twelve e = judged ∙ must-failed _ 12 _ (both-asked ∙ e)
 
     -- granted
-    pub to-own : clearsB (clearanceOf (view b) t) ≡ true → ToOwn b area c t 0 0
+    pub to-own : clearsB (clearanceOf (view b) t) ≡ true → ToOwn b area c t 0
     to-own e =
         record {
           room = room;
