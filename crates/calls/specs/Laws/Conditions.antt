@@ -2,9 +2,10 @@
 use Prim.Native.Nat.{ℕ}
 use native.Mathlib.Omega.{arith}
 use mathlib.Core.Bool.{Bool, true, false, cond, false≢true}
-use mathlib.Core.Path.{_≡_, refl, sym, subst, _∙_}
+use mathlib.Core.Path.{_≡_, refl, sym, ap₂, subst, _∙_}
 use mathlib.Core.List.{List, [], _∷_, _++_}
-use Rattle.rules.specs.Kernel.{Verdict, unless, whyNot, mustHold, Condition, holds, allHold}
+use Rattle.labels.specs.declared.Label.{Label}
+use Rattle.rules.specs.Kernel.{Verdict, unless, whyNot, mustHold, Condition, holds, allHold, flow}
 use Rattle.calls.specs.declared.Refusal.{Refusal}
 use Rattle.calls.specs.declared.Refusal.the-variants.{LabelForbids}
 use Rattle.calls.specs.declared.Tested.{Tested}
@@ -98,3 +99,7 @@ module _ (qs rs : List Condition) where
   pub first-fails : (r : Refusal) → tested qs ≡ Fail r → tested (qs ++ rs) ≡ Fail r
   unfolding tested
   first-fails r e = rw (all-not qs rs (tested-not qs r e)) (sym (rw (tested-not qs r e)) ∙ e)
+
+-- asked of these labels by other names
+pub flow-asked : (x y x₂ y₂ : Label) → x ≡ x₂ → y ≡ y₂ → (r : Tested) → r ≡ tested (flow x y ∷ []) → tested (flow x₂ y₂ ∷ []) ≡ r
+flow-asked x y x₂ y₂ p q r e = sym (e ∙ ap₂ (λ u w. tested (flow u w ∷ [])) p q)

@@ -4,18 +4,6 @@ use Rattle.calls.specs.Laws.LookBytes.{shown-put}
 use Rattle.calls.proofs.look.put_shown.Statement.{statement}
 use Rattle.calls.proofs.look.put_shown.Tie as tie
 
-cast-put-head : tie.Need-cast-put-head
-cast-put-head c = search needs
-
-put-head-requires : tie.Need-put-head-requires
-put-head-requires c κs = search needs
-
-put-words-requires : tie.Need-put-words-requires
-put-words-requires c κs = search needs
-
-same-length : tie.Need-same-length
-same-length c = search needs
-
 returns : tie.Need-returns
 returns c =
     let a = c .before .before .before .before .before .before .before .before .before .before .before .before .args in
@@ -23,10 +11,4 @@ returns c =
 
 pub put-shown-spec : {M : Type 1} → statement M
 put-shown-spec =
-    tie.close
-    (tie.spec
-    cast-put-head
-    put-head-requires
-    put-words-requires
-    same-length
-    returns)
+    tie.close (tie.spec (λ c. search needs) (λ c κs. search needs) (λ c κs. search needs) (λ c. search needs) returns)

@@ -6,15 +6,6 @@ use borrow.Author.Needs.{needs}
 use Rattle.calls.proofs.part.place_of.Statement.{statement}
 use Rattle.calls.proofs.part.place_of.Tie as tie
 
-block-of-requires : tie.Need-block-of-requires
-block-of-requires c κs = search needs
-
-enum-known-x : tie.Need-enum-known-x
-enum-known-x c = search needs
-
-enum-told : tie.Need-enum-told
-enum-told c = search needs
-
 returns : tie.Need-returns
 returns c = place-nowhere _ _ _ _ (sym (c .before .before .block-of .ensures) ∙ c .enum-told .given .1)
 
@@ -33,12 +24,4 @@ returns-2 c = place-there _ _ _ _ _ (sym (c .before .before .before .block-of .e
 
 pub place-of-spec : {M : Type 1} → statement M
 place-of-spec =
-    tie.close
-    (tie.spec
-    block-of-requires
-    enum-known-x
-    enum-told
-    returns
-    mul-result
-    add-result
-    returns-2)
+    tie.close (tie.spec (λ c κs. search needs) (λ c. search needs) (λ c. search needs) returns mul-result add-result returns-2)
