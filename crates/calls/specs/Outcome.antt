@@ -15,7 +15,8 @@ use Rattle.book.specs.Test.{areasB}
 use Rattle.calls.specs.declared.Answer.{Answer}
 use Rattle.calls.specs.declared.Answer.the-variants.{Granted, Refused}
 use Rattle.calls.specs.declared.Refusal.{Refusal}
-use Rattle.calls.specs.declared.Refusal.the-variants.{BadArea, NumbersEnded, NoCaller, BadArgument, NoEntry, WrongKind, LabelForbids, MaskForbids, QuotaFixed, AlreadyLinked, BeyondLength, NinthPair, NoSpare}
+use Rattle.calls.specs.declared.Refusal.the-variants.{BadArea, NumbersEnded, NoCaller, BadArgument, NoEntry, WrongKind, LabelForbids, MaskForbids, QuotaFixed, AlreadyLinked}
+use Rattle.calls.specs.declared.Refusal.the-variants.{BeyondLength, NinthPair, NoSpare}
 use Rattle.calls.specs.declared.Judged.{Judged}
 use Rattle.calls.specs.declared.Judged.the-variants.{Go, No}
 
@@ -59,6 +60,10 @@ pub record Done (b area : List ℕ) (c : ℕ) (x : Call) (r : Answer) (b′ area
   pub answer : numberOf r ≡ answerOf (verdictOn b area c x)
   pub value : valueIn r ≡ valueOf (verdictOn b area c x)
   pub left : Left b area c x b′ area′
+
+-- The same with an output buffer, which held `out` and then holds `out′`.
+abbrev pub DoneWith : List ℕ → List ℕ → ℕ → Call → List ℕ → Answer → List ℕ → List ℕ → List ℕ → Type 0
+DoneWith b area c x out r b′ area′ out′ = Done b area c x r b′ area′ × (out′ ≡ outputLeft (verdictOn b area c x) out)
 
 -- ---- judging
 

@@ -3,8 +3,8 @@ ghost use mathlib.Core.Path.{_≡_};
 ghost use mathlib.Core.Bool.{cond};
 ghost use Prim.Native.Nat.{_<_};
 ghost use Rattle.rules.specs.Kernel.{clearedAt, createCategory};
-ghost use Rattle.calls.specs.CreateCategory.{clearsB, ToOwn};
-ghost use Rattle.calls.specs.Outcome.{Done, Means, verdictOn};
+ghost use Rattle.calls.specs.CreateCategory.{clearsB, CategoryJudged};
+ghost use Rattle.calls.specs.Outcome.{Done};
 use super::Answer;
 use super::Begun;
 use super::Judged;
@@ -34,7 +34,7 @@ fn cleared(c: Label, n: u64) -> Paired
 }
 
 fn judge(b: &[u8], area: &[u8], caller: u64) -> Judged
-    ensures { λ r. ⌜ Means (now (b .entry)) (now (area .entry)) (verdictOn (now (b .entry)) (now (area .entry)) caller createCategory) (ToOwn (now (b .entry)) (now (area .entry)) caller) r ⌝ }
+    ensures { λ r. ⌜ CategoryJudged (now (b .entry)) (now (area .entry)) caller r ⌝ }
 {
     let t = match begin(b, area, caller) {
         Begun::By(t) => t,

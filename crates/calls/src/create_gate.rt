@@ -102,7 +102,8 @@ pub fn create_gate(
     closure: &[u8],
     description: &[u8],
 ) -> Answer
-    ensures { λ r. ⌜ Done (now (b .entry)) (now (area .entry)) caller (createGate d (now (label .entry)) (now (clearance .entry)) number (now (closure .entry)) (now (description .entry))) r (now (b .exit)) (now (area .exit)) ⌝ }
+    ensures { λ r. ⌜ Done (now (b .entry)) (now (area .entry)) caller
+        (createGate d (now (label .entry)) (now (clearance .entry)) number (now (closure .entry)) (now (description .entry))) r (now (b .exit)) (now (area .exit)) ⌝ }
 {
     let c = match judge(
         b,

@@ -63,7 +63,8 @@ pub fn plain_allowed(b: &[u8], t: usize, label: &[u8]) -> Tested
 // The same of one with a clearance, which stands between the two.
 pub fn cleared_allowed(b: &[u8], t: usize, label: &[u8], clearance: &[u8]) -> Tested
     requires { ⌜ (length (now b) ≡ size) × (t < rowCount) × (length (now label) ≡ core.labelSize) × (length (now clearance) ≡ core.labelSize) ⌝ }
-    ensures { λ r. ⌜ r ≡ tested (clearedConditions (labelOf (view (now (b .entry))) t) (clearanceOf (view (now (b .entry))) t) (core.labelOf (now (label .entry))) (core.labelOf (now (clearance .entry)))) ⌝ }
+    ensures { λ r. ⌜ r ≡ tested (clearedConditions (labelOf (view (now (b .entry))) t) (clearanceOf (view (now (b .entry))) t)
+        (core.labelOf (now (label .entry))) (core.labelOf (now (clearance .entry)))) ⌝ }
 {
     let new = from_bytes(label);
     let most = from_bytes(clearance);

@@ -7,7 +7,7 @@ ghost use Rattle.rules.specs.Kernel.{enterGate};
 ghost use Rattle.tables.specs.Layout.{view, size, rowCount};
 ghost use Rattle.calls.specs.Conditions.{tested};
 ghost use Rattle.calls.specs.EnterGate.{goodGate, gateConditions, asksAt, EnterJudged};
-ghost use Rattle.calls.specs.Outcome.{Done, verdictOn, outputLeft};
+ghost use Rattle.calls.specs.Outcome.{DoneWith};
 use super::Answer;
 use super::Begun;
 use super::Judged;
@@ -139,7 +139,9 @@ pub fn enter_gate(
     lv: &[u8],
     out: &mut [u8],
 ) -> Answer
-    ensures { λ r. ⌜ Done (now (b .entry)) (now (area .entry)) caller (enterGate d g (now (lr .entry)) (now (cr .entry)) (now (lv .entry)) (length (now (out .entry)))) r (now (b .exit)) (now (area .exit)) × (now (out .exit) ≡ outputLeft (verdictOn (now (b .entry)) (now (area .entry)) caller (enterGate d g (now (lr .entry)) (now (cr .entry)) (now (lv .entry)) (length (now (out .entry))))) (now (out .entry))) ⌝ }
+    ensures { λ r. ⌜ DoneWith (now (b .entry)) (now (area .entry)) caller
+        (enterGate d g (now (lr .entry)) (now (cr .entry)) (now (lv .entry)) (length (now (out .entry))))
+        (now (out .entry)) r (now (b .exit)) (now (area .exit)) (now (out .exit)) ⌝ }
 {
     let n = out.len();
     match judge(b, area, caller, d, g, lr, cr, lv, n) {

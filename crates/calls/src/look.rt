@@ -10,7 +10,7 @@ ghost use Rattle.rules.specs.Kernel.{look, lookSize};
 ghost use Rattle.tables.specs.Layout.{view, size, rowCount};
 ghost use Rattle.book.specs.Book.{labelOf};
 ghost use Rattle.calls.specs.Look.{openLook, shownB, shownBytes, hiddenBytes, lookAt, LookJudged};
-ghost use Rattle.calls.specs.Outcome.{Done, verdictOn, outputLeft};
+ghost use Rattle.calls.specs.Outcome.{DoneWith};
 use super::Answer;
 use super::Begun;
 use super::Judged;
@@ -139,7 +139,8 @@ fn look_into(b: &[u8], t: usize, r: usize, out: &mut [u8])
 }
 
 pub fn look(b: &mut [u8], area: &mut [u8], caller: u64, d: u64, o: u64, out: &mut [u8]) -> Answer
-    ensures { λ r. ⌜ Done (now (b .entry)) (now (area .entry)) caller (look d o (length (now (out .entry)))) r (now (b .exit)) (now (area .exit)) × (now (out .exit) ≡ outputLeft (verdictOn (now (b .entry)) (now (area .entry)) caller (look d o (length (now (out .entry))))) (now (out .entry))) ⌝ }
+    ensures { λ r. ⌜ DoneWith (now (b .entry)) (now (area .entry)) caller (look d o (length (now (out .entry))))
+        (now (out .entry)) r (now (b .exit)) (now (area .exit)) (now (out .exit)) ⌝ }
 {
     let n = out.len();
     match judge(b, area, caller, d, o, n) {

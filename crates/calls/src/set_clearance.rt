@@ -3,8 +3,8 @@ ghost use mathlib.Core.Path.{_≡_};
 ghost use mathlib.Core.List.{[], _∷_};
 ghost use Rattle.rules.specs.Kernel as kernel;
 ghost use Rattle.calls.specs.Conditions.{tested};
-ghost use Rattle.calls.specs.Outcome.{Done, Means, verdictOn};
-ghost use Rattle.calls.specs.SetClearance.{ToSetClearance};
+ghost use Rattle.calls.specs.Outcome.{Done};
+ghost use Rattle.calls.specs.SetClearance.{ClearanceJudged};
 use super::Answer;
 use super::Begun;
 use super::Judged;
@@ -34,7 +34,7 @@ fn allowed(mine: Label, taken: Label, cleared: Label) -> Tested
 }
 
 fn judge(b: &[u8], area: &[u8], caller: u64, clearance: &[u8]) -> Judged
-    ensures { λ r. ⌜ Means (now (b .entry)) (now (area .entry)) (verdictOn (now (b .entry)) (now (area .entry)) caller (kernel.setClearance (now (clearance .entry)))) (ToSetClearance (now (b .entry)) (now (area .entry)) caller (now (clearance .entry))) r ⌝ }
+    ensures { λ r. ⌜ ClearanceJudged (now (b .entry)) (now (area .entry)) caller (now (clearance .entry)) r ⌝ }
 {
     let t = match begin(b, area, caller) {
         Begun::By(t) => t,

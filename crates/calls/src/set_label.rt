@@ -3,8 +3,8 @@ ghost use mathlib.Core.Path.{_≡_};
 ghost use mathlib.Core.List.{[], _∷_};
 ghost use Rattle.rules.specs.Kernel as kernel;
 ghost use Rattle.calls.specs.Conditions.{tested};
-ghost use Rattle.calls.specs.Outcome.{Done, Means, verdictOn};
-ghost use Rattle.calls.specs.SetLabel.{ToSetLabel};
+ghost use Rattle.calls.specs.Outcome.{Done};
+ghost use Rattle.calls.specs.SetLabel.{LabelJudged};
 use super::Answer;
 use super::Begun;
 use super::Judged;
@@ -33,7 +33,7 @@ fn allowed(mine: Label, taken: Label, cleared: Label) -> Tested
 }
 
 fn judge(b: &[u8], area: &[u8], caller: u64, label: &[u8]) -> Judged
-    ensures { λ r. ⌜ Means (now (b .entry)) (now (area .entry)) (verdictOn (now (b .entry)) (now (area .entry)) caller (kernel.setLabel (now (label .entry)))) (ToSetLabel (now (b .entry)) (now (area .entry)) caller (now (label .entry))) r ⌝ }
+    ensures { λ r. ⌜ LabelJudged (now (b .entry)) (now (area .entry)) caller (now (label .entry)) r ⌝ }
 {
     let t = match begin(b, area, caller) {
         Begun::By(t) => t,

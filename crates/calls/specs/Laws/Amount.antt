@@ -11,7 +11,8 @@ use mir.Syntax.{w64}
 use mir.Val.{SFits, Fits}
 use borrow.Author.Tests.{ltb-true, ltb-false, lt-ltb, le-ltb, lt-leb, le-leb}
 use Rattle.labels.specs.declared.Label.{Label}
-use Rattle.rules.specs.Kernel.{Obj, World, Verdict, grant, must, mustHold, judge, move, entry, isSegment, isContainer, reading, writing, flow, moveQuota, alter, requota, goodArguments, maxMove, rootQuota}
+use Rattle.rules.specs.Kernel.{Obj, World, Verdict, grant, must, mustHold, judge, move, entry, isSegment, isContainer, reading, writing, flow, moveQuota, alter, requota}
+use Rattle.rules.specs.Kernel.{goodArguments, maxMove, rootQuota}
 use Rattle.tables.specs.Layout.{View}
 use Rattle.book.specs.Units.{spareAt}
 use Rattle.calls.specs.declared.amount.Amount.{Amount}

@@ -124,9 +124,13 @@ pub look-bytes : (v : View) (area : List ℕ) (mine : Label) (r : ℕ) → codeO
 unfolding lookBytes
 look-bytes v area mine r small =
     ap₂ (λ (s : List ℕ) (z : List ℕ). s ++ z) (object-description v area r)
-    ((λ i. (kindCode (object-kind v area r i) ∷ cond (object-thread v area r i && not (mayRead mine (object-label v area r i))) (replicate (7 + wordCount * 8) 0) (1 ∷ object-label v area r i .default ∷ (replicate 5 0 ++ wordsBytes (object-label v area r i .words)))))
-    ∙ (ap (λ (k : ℕ). k ∷ cond (eqb (codeOf v r) threadCode && not (mayRead mine (labelOf v r))) (replicate (7 + wordCount * 8) 0) (1 ∷ labelOf v r .default ∷ (replicate 5 0 ++ wordsBytes (labelOf v r .words)))) (code-from (codeOf v r) small)
-    ∙ (under-cons (eqb (codeOf v r) threadCode && not (mayRead mine (labelOf v r))) (codeOf v r) (replicate (7 + wordCount * 8) 0) (1 ∷ labelOf v r .default ∷ (replicate 5 0 ++ wordsBytes (labelOf v r .words)))
+    ((λ i. (kindCode (object-kind v area r i)
+    ∷ cond (object-thread v area r i && not (mayRead mine (object-label v area r i))) (replicate (7 + wordCount * 8) 0)
+    (1 ∷ object-label v area r i .default ∷ (replicate 5 0 ++ wordsBytes (object-label v area r i .words)))))
+    ∙ (ap (λ (k : ℕ). k ∷ cond (eqb (codeOf v r) threadCode && not (mayRead mine (labelOf v r))) (replicate (7 + wordCount * 8) 0)
+    (1 ∷ labelOf v r .default ∷ (replicate 5 0 ++ wordsBytes (labelOf v r .words)))) (code-from (codeOf v r) small)
+    ∙ (under-cons (eqb (codeOf v r) threadCode && not (mayRead mine (labelOf v r))) (codeOf v r) (replicate (7 + wordCount * 8) 0)
+    (1 ∷ labelOf v r .default ∷ (replicate 5 0 ++ wordsBytes (labelOf v r .words)))
     ∙ choose (eqb (codeOf v r) threadCode && not (mayRead mine (labelOf v r))) (hiddenBytes (codeOf v r)) (shownBytes (codeOf v r) (labelOf v r)))))
 
 -- ---- the verdict

@@ -6,7 +6,8 @@ use mathlib.Core.List.{List}
 use lib.ListN.{length}
 use lib.Dec.{eqb}
 use borrow.Author.Tests.{le-leb, lt-leb, eqb-true}
-use Rattle.rules.specs.Kernel.{Refusal, by, numberOf, valueWith, Verdict, refused, refuse, grant, unless, must, Call, Change, call, tests, judge, isThread, goodArguments, lastNumber, answerOf, valueOf}
+use Rattle.rules.specs.Kernel.{Refusal, by, numberOf, valueWith, Verdict, refused, refuse, grant, unless, must, Call, Change, call, tests, judge, isThread, goodArguments}
+use Rattle.rules.specs.Kernel.{lastNumber, answerOf, valueOf}
 use Rattle.rules.specs.Sound as rules
 use Rattle.tables.specs.Layout.{view, size}
 use Rattle.book.specs.Book.{nextOf, worldOf}

@@ -1,5 +1,5 @@
 -- Call 12: the verdict at each way out of its judging, and what it does.
-use Prim.Native.Nat.{ℕ, _+_, _*_, _-_, _≤_}
+use Prim.Native.Nat.{ℕ, _+_, _*_, _-_}
 use native.Mathlib.Nat.{add-sub-cancel-left}
 use native.Mathlib.Omega.{arith}
 use mathlib.Core.Bool.{true, false, _&&_}

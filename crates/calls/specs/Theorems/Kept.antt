@@ -7,7 +7,8 @@ use mathlib.Core.List.{List}
 use lib.ListN.{length}
 use lib.Dec.{leb}
 use borrow.Author.Tests.{eq-eqb, leb-true}
-use Rattle.rules.specs.Kernel.{Call, Edit, relabel, fix, requota, rewrite, Change, keep, alter, create, cut, link, Refusal, by, numberOf, Verdict, refused, grant, call, tests, after, leaves, apply, lastNumber}
+use Rattle.rules.specs.Kernel.{Call, Edit, relabel, fix, requota, rewrite, Change, keep, alter, create, cut, link, Refusal, by, numberOf, Verdict, refused, grant, call, tests}
+use Rattle.rules.specs.Kernel.{after, leaves, apply, lastNumber}
 use Rattle.rules.specs.Fair.{Fair}
 use Rattle.rules.specs.Laws.Bools.{bool-cases, not-both}
 use Rattle.rules.specs.Laws.Grants.{grants-fair}

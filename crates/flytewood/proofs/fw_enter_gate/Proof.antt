@@ -20,8 +20,9 @@ same-length-3 c = search needs
 
 returns : tie.Need-returns
 returns c =
-    with-buffer _ _ _ _ _ _ _ _ _ (c .spread .ensures .0) (c .spread .ensures .1) (c .before .before .before .before .before .before .before .before .enter-gate .ensures .0)
-    (c .before .before .before .before .before .before .slice-known4 .given) (c .before .before .before .before .slice-known5 .given) _ _ (c .before .before .before .before .before .before .before .before .enter-gate .ensures .1)
+    let up8 = c .before .before .before .before .before .before .before .before in
+    with-buffer _ _ _ _ _ _ _ _ _ (c .spread .ensures .0) (c .spread .ensures .1) (up8 .enter-gate .ensures .0)
+    (c .before .before .before .before .before .before .slice-known4 .given) (c .before .before .before .before .slice-known5 .given) _ _ (up8 .enter-gate .ensures .1)
 
 pub fw-enter-gate-spec : {M : Type 1} → statement M
 fw-enter-gate-spec =

@@ -20,8 +20,9 @@ same-length-3 c = search needs
 
 returns : tie.Need-returns
 returns c =
-    with-buffer _ _ _ _ _ _ _ _ _ (c .spread .ensures .0) (c .spread .ensures .1) (c .before .before .before .before .before .before .before .before .look .ensures .0)
-    (c .before .before .before .before .before .before .slice-known4 .given) (c .before .before .before .before .slice-known5 .given) _ _ (c .before .before .before .before .before .before .before .before .look .ensures .1)
+    let up8 = c .before .before .before .before .before .before .before .before in
+    with-buffer _ _ _ _ _ _ _ _ _ (c .spread .ensures .0) (c .spread .ensures .1) (up8 .look .ensures .0)
+    (c .before .before .before .before .before .before .slice-known4 .given) (c .before .before .before .before .slice-known5 .given) _ _ (up8 .look .ensures .1)
 
 pub fw-look-spec : {M : Type 1} → statement M
 fw-look-spec =

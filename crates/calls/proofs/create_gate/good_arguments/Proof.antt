@@ -15,14 +15,17 @@ returns-2 c =
 
 returns-3 : tie.Need-returns-3
 returns-3 c =
-    first-good _ _ _ (sym (c .before .before .before .before .before .good-label .ensures) ∙ not-false (c .before .before .before .before .before .good-label .result) (c .before .before .before .before .if1 .left))
+    first-good _ _ _ (sym (c .before .before .before .before .before .good-label .ensures) ∙ not-false (c .before .before .before .before .before .good-label .result)
+    (c .before .before .before .before .if1 .left))
     (first-good _ _ _ (sym (c .before .before .before .good-label2 .ensures) ∙ not-false (c .before .before .before .good-label2 .result) (c .before .before .if2 .left))
     (first-bad _ _ (sym (c .before .good-text .ensures) ∙ not-true (c .before .good-text .result) (c .if3 .taken))))
 
 returns-4 : tie.Need-returns-4
 returns-4 c =
-    first-good _ _ _ (sym (c .before .before .before .before .before .before .good-label .ensures) ∙ not-false (c .before .before .before .before .before .before .good-label .result) (c .before .before .before .before .before .if1 .left))
-    (first-good _ _ _ (sym (c .before .before .before .before .good-label2 .ensures) ∙ not-false (c .before .before .before .before .good-label2 .result) (c .before .before .before .if2 .left))
+    first-good _ _ _ (sym (c .before .before .before .before .before .before .good-label .ensures) ∙ not-false
+    (c .before .before .before .before .before .before .good-label .result) (c .before .before .before .before .before .if1 .left))
+    (first-good _ _ _ (sym (c .before .before .before .before .good-label2 .ensures) ∙ not-false (c .before .before .before .before .good-label2 .result)
+    (c .before .before .before .if2 .left))
     (first-good _ _ _ (sym (c .before .before .good-text .ensures) ∙ not-false (c .before .before .good-text .result) (c .before .if3 .left)) (c .good-text2 .ensures)))
 
 pub good-arguments-spec : {M : Type 1} → statement M

@@ -7,12 +7,19 @@ use Rattle.calls.proofs.look.look_into.Statement.{statement}
 use Rattle.calls.proofs.look.look_into.Tie as tie
 
 put-label-requires : tie.Need-put-label-requires
-put-label-requires c κs = (search needs, subst (λ (l : Label). l .default < 256) (sym (c .before .before .before .before .before .before .label-of2 .ensures)) (c .before .before .before .before .before .before .before .before .before .before .pre .4))
+put-label-requires c κs =
+    let up8 = c .before .before .before .before .before .before .before .before in
+    (search needs, subst (λ (l : Label). l .default < 256) (sym (c .before .before .before .before .before .before .label-of2 .ensures)) (up8 .before .before .pre .4))
 
 returns : tie.Need-returns
 returns c =
-    let a = c .before .before .before .before .before .before .before .before .before .before .before .before .before .args in
-    look-put (a .b .now) (c .before .before .before .before .before .before .before .before .before .before .label-of .result) _ (c .before .before .before .before .before .before .before .before .before .label-of2 .result) (c .before .before .before .before .before .before .before .before .kind-of .result) (a .r) (a .out .now) (c .before .before .before .before .before .before .description-into .last .1 .1 .0) (c .before .before .put-label .last .0) (c .before .before .before .before .before .before .before .before .before .before .before .before .before .pre .2) (c .before .before .before .before .before .before .before .before .before .before .before .before .before .pre .3) (c .before .before .before .before .before .before .description-into .ensures) (c .before .before .before .before .before .before .before .before .before .before .label-of .ensures) (c .before .before .before .before .before .before .before .before .before .label-of2 .ensures) (c .before .before .before .before .before .before .before .before .kind-of .ensures) (c .before .before .put-label .ensures)
+    let up8 = c .before .before .before .before .before .before .before .before in
+    let a = up8 .before .before .before .before .before .args in
+    look-put (a .b .now) (up8 .before .before .label-of .result) _ (up8 .before .label-of2 .result) (up8 .kind-of .result) (a .r) (a .out .now)
+    (c .before .before .before .before .before .before .description-into .last .1 .1 .0) (c .before .before .put-label .last .0)
+    (up8 .before .before .before .before .before .pre .2) (up8 .before .before .before .before .before .pre .3)
+    (c .before .before .before .before .before .before .description-into .ensures) (up8 .before .before .label-of .ensures) (up8 .before .label-of2 .ensures)
+    (up8 .kind-of .ensures) (c .before .before .put-label .ensures)
 
 pub look-into-spec : {M : Type 1} → statement M
 look-into-spec =

@@ -11,12 +11,14 @@ returns c = place-nowhere _ _ _ _ (sym (c .before .before .block-of .ensures) �
 
 mul-result : tie.Need-mul-result
 mul-result c =
-    let l = block-low (view (c .before .before .before .before .before .args .b .now)) (c .before .before .before .before .before .args .r) (c .before .before .before .before .before .args .k) _ (sym (c .before .before .before .block-of .ensures) ∙ c .before .x .given .1) in
+    let l = block-low (view (c .before .before .before .before .before .args .b .now)) (c .before .before .before .before .before .args .r)
+    (c .before .before .before .before .before .args .k) _ (sym (c .before .before .before .block-of .ensures) ∙ c .before .x .given .1) in
     omega (arith, l)
 
 add-result : tie.Need-add-result
 add-result c =
-    let l = block-low (view (c .before .before .before .before .before .args .b .now)) (c .before .before .before .before .before .args .r) (c .before .before .before .before .before .args .k) _ (sym (c .before .before .before .block-of .ensures) ∙ c .before .x .given .1) in
+    let l = block-low (view (c .before .before .before .before .before .args .b .now)) (c .before .before .before .before .before .args .r)
+    (c .before .before .before .before .before .args .k) _ (sym (c .before .before .before .block-of .ensures) ∙ c .before .x .given .1) in
     omega (arith, l, c .before .before .before .before .before .pre .2)
 
 returns-2 : tie.Need-returns-2
