@@ -98,7 +98,9 @@ pub extern "C" fn fw_create_container(
     quota: u64,
     value: &mut u64,
 ) -> u64
-    ensures { λ r. ⌜ Called (now (b .entry)) (now (area .entry)) caller (kernel.createContainer d (now (label .entry)) (now (description .entry)) mask quota) [] r (now (value .exit)) (now (b .exit)) (now (area .exit)) [] ⌝ }
+    ensures { λ r. ⌜ Called (now (b .entry)) (now (area .entry)) caller
+        (kernel.createContainer d (now (label .entry)) (now (description .entry)) mask quota)
+        [] r (now (value .exit)) (now (b .exit)) (now (area .exit)) [] ⌝ }
 {
     spread(
         create_container(b, area, caller, d, label, description, mask, quota),
@@ -118,7 +120,9 @@ pub extern "C" fn fw_create_segment(
     quota: u64,
     value: &mut u64,
 ) -> u64
-    ensures { λ r. ⌜ Called (now (b .entry)) (now (area .entry)) caller (kernel.createSegment d (now (label .entry)) (now (description .entry)) quota) [] r (now (value .exit)) (now (b .exit)) (now (area .exit)) [] ⌝ }
+    ensures { λ r. ⌜ Called (now (b .entry)) (now (area .entry)) caller
+        (kernel.createSegment d (now (label .entry)) (now (description .entry)) quota)
+        [] r (now (value .exit)) (now (b .exit)) (now (area .exit)) [] ⌝ }
 {
     spread(
         create_segment(b, area, caller, d, label, description, quota),
@@ -140,7 +144,9 @@ pub extern "C" fn fw_create_gate(
     description: &[u8],
     value: &mut u64,
 ) -> u64
-    ensures { λ r. ⌜ Called (now (b .entry)) (now (area .entry)) caller (kernel.createGate d (now (label .entry)) (now (clearance .entry)) number (now (closure .entry)) (now (description .entry))) [] r (now (value .exit)) (now (b .exit)) (now (area .exit)) [] ⌝ }
+    ensures { λ r. ⌜ Called (now (b .entry)) (now (area .entry)) caller
+        (kernel.createGate d (now (label .entry)) (now (clearance .entry)) number (now (closure .entry)) (now (description .entry)))
+        [] r (now (value .exit)) (now (b .exit)) (now (area .exit)) [] ⌝ }
 {
     spread(
         create_gate(
@@ -170,7 +176,9 @@ pub extern "C" fn fw_create_thread(
     description: &[u8],
     value: &mut u64,
 ) -> u64
-    ensures { λ r. ⌜ Called (now (b .entry)) (now (area .entry)) caller (kernel.createThread d (now (label .entry)) (now (clearance .entry)) (now (description .entry))) [] r (now (value .exit)) (now (b .exit)) (now (area .exit)) [] ⌝ }
+    ensures { λ r. ⌜ Called (now (b .entry)) (now (area .entry)) caller
+        (kernel.createThread d (now (label .entry)) (now (clearance .entry)) (now (description .entry)))
+        [] r (now (value .exit)) (now (b .exit)) (now (area .exit)) [] ⌝ }
 {
     spread(
         create_thread(b, area, caller, d, label, clearance, description),
@@ -289,7 +297,9 @@ pub extern "C" fn fw_enter_gate(
     out: &mut [u8],
     value: &mut u64,
 ) -> u64
-    ensures { λ r. ⌜ Called (now (b .entry)) (now (area .entry)) caller (kernel.enterGate d g (now (given .entry)) (now (cleared .entry)) (now (verify .entry)) (length (now (out .entry)))) (now (out .entry)) r (now (value .exit)) (now (b .exit)) (now (area .exit)) (now (out .exit)) ⌝ }
+    ensures { λ r. ⌜ Called (now (b .entry)) (now (area .entry)) caller
+        (kernel.enterGate d g (now (given .entry)) (now (cleared .entry)) (now (verify .entry)) (length (now (out .entry))))
+        (now (out .entry)) r (now (value .exit)) (now (b .exit)) (now (area .exit)) (now (out .exit)) ⌝ }
 {
     spread(
         enter_gate(b, area, caller, d, g, given, cleared, verify, out),
@@ -308,7 +318,9 @@ pub extern "C" fn fw_look(
     out: &mut [u8],
     value: &mut u64,
 ) -> u64
-    ensures { λ r. ⌜ Called (now (b .entry)) (now (area .entry)) caller (kernel.look d o (length (now (out .entry)))) (now (out .entry)) r (now (value .exit)) (now (b .exit)) (now (area .exit)) (now (out .exit)) ⌝ }
+    ensures { λ r. ⌜ Called (now (b .entry)) (now (area .entry)) caller
+        (kernel.look d o (length (now (out .entry))))
+        (now (out .entry)) r (now (value .exit)) (now (b .exit)) (now (area .exit)) (now (out .exit)) ⌝ }
 {
     spread(look(b, area, caller, d, o, out), value)
 }
