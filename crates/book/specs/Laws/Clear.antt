@@ -12,7 +12,7 @@ use Rattle.labels.specs.declared.Label.{Label}
 use Rattle.rules.specs.Kernel.{segmentCode, isSegment, Obj, Edit, relabel, fix, requota, rewrite, Change, keep, alter, create, cut, link, kept, blockSize}
 use Rattle.rules.specs.Fair.{Fair}
 use Rattle.rules.specs.Laws.Bools.{bool-cases}
-use Rattle.tables.specs.Layout.{View, rowCount, blockCount}
+use Rattle.tables.specs.Layout.{View, rowCount, blockCount, indexT}
 use Rattle.book.specs.Book.{nextOf, idOf, codeOf, lenOf, quotaOf, ownerOf, indexOf, blocksOf, rowOf, worldOf}
 use Rattle.book.specs.Sound.{Live, Sound}
 use Rattle.book.specs.Placed.{Placed}
@@ -147,7 +147,7 @@ module _ (v : View) (area : List ℕ) (p : Placed v) (z : Shape v) (r : ℕ) (a 
   unfolding u
   past-own j l o h = after-at v u r b area j l ∙ elim (ℕ-discrete (ownerOf v (j / blockSize)) (r + 1)) [
     | yes q ↦
-        let e = lengthened-mine r (length b) v (z .index-long) (held v r p a c) (j / blockSize) (omega arith) q o in
+        let e = lengthened-mine r (length b) v (z .long indexT) (held v r p a c) (j / blockSize) (omega arith) q o in
         bool-cases (ltb (spot u j) (lenOf v r))
         (λ t. byte-freed v u r b area j o h q (ltb-true (spot u j) (lenOf v r) t))
         (λ t. byte-stays v u r b area j o h q (ltb-false (spot u j) (lenOf v r) t)

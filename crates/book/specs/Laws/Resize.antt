@@ -15,7 +15,7 @@ use Rattle.rules.specs.Kernel.{segmentCode, blockSize, rewrite, alter, resized,
 use Rattle.rules.specs.Laws.Bools.{bool-cases}
 use Rattle.rules.specs.Laws.Bytes.{resized-at}
 use Rattle.rules.specs.Laws.Lengths.{resized-length}
-use Rattle.tables.specs.Layout.{View, rowCount, blockCount}
+use Rattle.tables.specs.Layout.{View, rowCount, blockCount, indexT}
 use Rattle.book.specs.declared.Found.the-variants.{At}
 use Rattle.book.specs.Book.{idOf, codeOf, quotaOf, lenOf, ownerOf, indexOf, blocksOf, isBlock, first, bytesOf, rowOf, worldOf}
 use Rattle.book.specs.Sound.{Live, Sound}
@@ -183,7 +183,7 @@ module _ (v : View) (shape : Shape v) (p : Placed v) (r : ℕ) (a : Live v r) (c
       omega (arith, k .low, k .high))
       (λ t. omega (arith, k .free, drop-keep r (blocksOf n) v (j / blockSize) x t)))))
       (added-each r (blocksOf n - blocksOf (lenOf v r)) (blocksOf (lenOf v r)) (blocksDropped r (blocksOf n) v) (wipedTo blockCount r (blocksOf n) v (betweenCleared r (lenOf v r) n v area))
-      (drop-long r (blocksOf n) v) (unfold blocksDropped in (shape .index-long)) (wiped-length r (blocksOf n) v (betweenCleared r (lenOf v r) n v area) blockCount) (j / blockSize) x)
+      (drop-long r (blocksOf n) v) (unfold blocksDropped in (shape .long indexT)) (wiped-length r (blocksOf n) v (betweenCleared r (lenOf v r) n v area) blockCount) (j / blockSize) x)
 
   -- The steps of a resize come to what the change asks of the area.
   pub resized-area : resizedArea r n v area ≡ areaAfter v (lengthened r n v) r (resized n (bytesOf v area r)) area

@@ -8,7 +8,7 @@ use lib.Seq.{length-take-le}
 use Rattle.labels.specs.declared.Label.{Label}
 use Rattle.labels.specs.Core.{wordCount, wellFormed}
 use Rattle.labels.specs.Core.Formed.{well-formed-means}
-use Rattle.tables.specs.Layout.{View, rowCount}
+use Rattle.tables.specs.Layout.{View, rowCount, labelWordsT, clearWordsT}
 use Rattle.tables.specs.Layout.Laws.{within}
 use Rattle.book.specs.Book.{nextOf, codeOf, labelOf, clearanceOf, ThreadOrGate, isThreadOrGate}
 use Rattle.book.specs.Sound.{Live, Sound}
@@ -29,11 +29,11 @@ clearance-low v s r a h = formed-low (nextOf v) false (clearanceOf v r) (s .clea
 -- and these have all their words.
 pub label-long : (v : View) → Shape v → (r : ℕ) → r < rowCount → length ((labelOf v r) .words) ≡ wordCount
 label-long v z r h =
-    length-take-le wordCount (drop (r * wordCount) (v .labelWords)) (omega (arith, length-drop (r * wordCount) (v .labelWords), z .labelWords-long, within r rowCount wordCount h))
+    length-take-le wordCount (drop (r * wordCount) (v .labelWords)) (omega (arith, length-drop (r * wordCount) (v .labelWords), z .long labelWordsT, within r rowCount wordCount h))
 
 pub clearance-long : (v : View) → Shape v → (r : ℕ) → r < rowCount → length ((clearanceOf v r) .words) ≡ wordCount
 clearance-long v z r h =
-    length-take-le wordCount (drop (r * wordCount) (v .clearWords)) (omega (arith, length-drop (r * wordCount) (v .clearWords), z .clearWords-long, within r rowCount wordCount h))
+    length-take-le wordCount (drop (r * wordCount) (v .clearWords)) (omega (arith, length-drop (r * wordCount) (v .clearWords), z .long clearWordsT, within r rowCount wordCount h))
 
 -- The next number stays where a row gets new labels, where its quota is fixed and where it is moved.
 pub relabelled-next : (v : View) (r : ℕ) (l c : Label) → nextOf (relabelled r l c v) ≡ nextOf v

@@ -15,12 +15,12 @@ use Rattle.rules.specs.Sound as W
 use Rattle.rules.specs.Laws.Bools.{and-r, not-i, bool-cases}
 use Rattle.rules.specs.Laws.Put.{put-same, put-other}
 use Rattle.rules.specs.Laws.StartSound.{start-sound}
-use Rattle.tables.specs.Layout.{View, rowCount, linkCount, blockCount, zeros, empty, putT}
+use Rattle.tables.specs.Layout.{View, rowCount, linkCount, blockCount, nextT, rootT, zeros, empty, putT}
 use Rattle.book.specs.Book.{nextOf, rootOf, idOf, codeOf, markOf, ownerOf, worldOf}
 use Rattle.book.specs.Sound.{Live, On, Sound}
 use Rattle.book.specs.Placed.{Placed}
 use Rattle.book.specs.Shape.{Shape}
-use Rattle.book.specs.Enact.{nextT, rootT, relabelled, rowFilled, linkFilled, startView, startArea}
+use Rattle.book.specs.Enact.{relabelled, rowFilled, linkFilled, startView, startArea}
 use Rattle.book.specs.Make.{objectOf, Handed, rootRow, threadRow, rootMade, threadMade}
 use Rattle.book.specs.Laws.Tie.{obj-none, linked-is, world-next, world-root}
 use Rattle.book.specs.Laws.SoundBy.{sound-by}

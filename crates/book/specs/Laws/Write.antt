@@ -13,12 +13,12 @@ use Rattle.quotas.specs.Any.{no-both}
 use Rattle.rules.specs.Kernel.{segmentCode, blockSize, rewrite, alter, overwrite, apply}
 use Rattle.rules.specs.Laws.Bools.{bool-cases, and-l, and-r, and-i, not-i}
 use Rattle.rules.specs.Laws.Bytes.{overwrite-at, overwrite-length}
-use Rattle.tables.specs.Layout.{View, blockCount, onTab, putT}
+use Rattle.tables.specs.Layout.{View, blockCount, lenT, ownerT, onTab, putT}
 use Rattle.book.specs.Book.{idOf, codeOf, lenOf, ownerOf, indexOf, blocksOf, isBlock, first, blockAt, placeOf, bytesOf, rowOf, worldOf}
 use Rattle.book.specs.Sound.{Live}
 use Rattle.book.specs.Placed.{Placed}
 use Rattle.book.specs.Shape.{Shape}
-use Rattle.book.specs.Enact.{areaSize, lenT, movedOn, blocksAdded, blocksDropped, lengthened, byteAfter, areaAfter, alteredView, alteredArea, enactView, enactArea}
+use Rattle.book.specs.Enact.{areaSize, movedOn, blocksAdded, blocksDropped, lengthened, byteAfter, areaAfter, alteredView, alteredArea, enactView, enactArea}
 use Rattle.book.specs.Laws.First.{found-cases, first-low, on-at, on-nothing, collect-is}
 use Rattle.book.specs.Laws.Tie.{row-found, bytes-length}
 use Rattle.book.specs.Laws.Cleared.{if-true, if-false}
@@ -64,7 +64,7 @@ unfolding lengthened blocksAdded
 lengthened-same v shape p r a c =
     ap (λ (m : ℕ). putT lenT r (lenOf v r) (blocksAdded r (blocksOf (lenOf v r)) m (blocksDropped r (blocksOf (lenOf v r)) v)))
     (let z : blocksOf (lenOf v r) - blocksOf (lenOf v r) ≡ 0 = omega arith in z)
-    ∙ ap (putT lenT r (lenOf v r)) (dropped-same r (blocksOf (lenOf v r)) (blocksOf (lenOf v r)) v (held v r p a c) (omega arith) (shape .owner-long))
+    ∙ ap (putT lenT r (lenOf v r)) (dropped-same r (blocksOf (lenOf v r)) (blocksOf (lenOf v r)) v (held v r p a c) (omega arith) (shape .long ownerT))
     ∙ ap (λ (l : List ℕ). onTab lenT (λ x. l) v) (set-getD (v .len) r 0)
 
 module _ (v : View) (p : Placed v) (r : ℕ) (a : Live v r) (c : codeOf v r ≡ segmentCode) (k f : ℕ) where

@@ -20,7 +20,7 @@ run-small b t w i n r h =
 
 -- and the table reaches as far
 pub run-long : (b : List ℕ) (t w i n : ℕ) → Run b t w i n → i + n ≤ length (tabOf (view b) t)
-run-long b t w i n r = omega (arith, tabOf-long b t (r .table), r .place)
+run-long b t w i n r = omega (arith, tabOf-long b t, r .place)
 
 -- ---- a run written
 
