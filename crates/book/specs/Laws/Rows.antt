@@ -1,4 +1,4 @@
--- What is known of the fields of a row, and that changes of one row leave the next number.
+-- What is known of the fields of a row, and that new labels leave the next number.
 use Prim.Native.Nat.{ℕ, _*_, _<_}
 use native.Mathlib.Omega.{arith}
 use mathlib.Core.Bool.{Bool, true, false}
@@ -13,7 +13,7 @@ use Rattle.tables.specs.Layout.Laws.{within}
 use Rattle.book.specs.Book.{nextOf, codeOf, labelOf, clearanceOf, ThreadOrGate, isThreadOrGate}
 use Rattle.book.specs.Sound.{Live, Sound}
 use Rattle.book.specs.Shape.{Shape}
-use Rattle.book.specs.Enact.{relabelled, fixedAt, requotaed}
+use Rattle.book.specs.Enact.{relabelled}
 
 -- A well-formed label's default fits a byte.
 pub formed-low : (n : ℕ) (starred : Bool) (l : Label) → wellFormed n starred l ≡ true → l .default < 256
@@ -35,15 +35,7 @@ pub clearance-long : (v : View) → Shape v → (r : ℕ) → r < rowCount → l
 clearance-long v z r h =
     length-take-le wordCount (drop (r * wordCount) (v .clearWords)) (omega (arith, length-drop (r * wordCount) (v .clearWords), z .long clearWordsT, within r rowCount wordCount h))
 
--- The next number stays where a row gets new labels, where its quota is fixed and where it is moved.
+-- The next number stays where a row gets new labels.
 pub relabelled-next : (v : View) (r : ℕ) (l c : Label) → nextOf (relabelled r l c v) ≡ nextOf v
 unfolding relabelled
 relabelled-next v r l c = refl
-
-pub fixed-next : (v : View) (r : ℕ) → nextOf (fixedAt r v) ≡ nextOf v
-unfolding fixedAt
-fixed-next v r = refl
-
-pub requotaed-next : (v : View) (r q : ℕ) → nextOf (requotaed r q v) ≡ nextOf v
-unfolding requotaed
-requotaed-next v r q = refl

@@ -11,7 +11,7 @@ use lib.Seq.{ext-getD}
 use lib.Dec.{eqb}
 use borrow.Author.Tests.{eq-eqb, ne-eqb}
 use Rattle.labels.specs.Le.{leAt, leSet}
-use Rattle.labels.specs.Le.Laws.{Below, leSet-low, leSet-high, leAt-agree, leAt-same, leAt-below}
+use Rattle.labels.specs.Le.Laws.{leSet-low, leSet-high, leAt-agree, leAt-same}
 use Rattle.tables.specs.Layout.{tables, tableCount, wOf, nOf, base, size, nums, tab, View, fromTabs, tabs, tabOf, view, putT, Slot}
 
 -- c has b's bytes from lo up to hi
@@ -56,13 +56,6 @@ unfolding nums
 nums-length w zero b from = refl
 nums-length w (suc n) b from = ap suc (nums-length w n b (from + w))
 
--- a number of w bytes is below 256 to the w
-pub nums-below : (w n : ℕ) (b : List ℕ) (from : ℕ) → Below 256 b → Below (256 ^ w) (nums w n b from)
-unfolding nums
-nums-below w zero b from h i = omega (arith, leAt-below w b from h)
-nums-below w (suc n) b from h zero = leAt-below w b from h
-nums-below w (suc n) b from h (suc i) = nums-below w n b (from + w) h i
-
 -- ---- the tables of the bytes
 
 -- two numbers are equal, or one is below the other
@@ -94,10 +87,6 @@ tab-at t i b h = nums-at (wOf t) (nOf t) b (base t) i h
 pub tab-length : (t : ℕ) (b : List ℕ) → length (tab b t) ≡ nOf t
 unfolding tab
 tab-length t b = nums-length (wOf t) (nOf t) b (base t)
-
-pub tab-below : (t : ℕ) (b : List ℕ) → Below 256 b → Below (256 ^ wOf t) (tab b t)
-unfolding tab
-tab-below t b h = nums-below (wOf t) (nOf t) b (base t) h
 
 -- ---- a book as a function of the table's number
 
