@@ -8,9 +8,9 @@ use lib.Seq.{take-at, take-all}
 use Rattle.labels.specs.declared.Label.{Label}
 use Rattle.labels.specs.Core.{wordCount, plain}
 use Rattle.rules.specs.Kernel.{threadCode, gateCode, segmentCode, containerCode, kindCode, blank, threadOf, gateOf, segmentOf, containerOf, textSize}
-use Rattle.tables.specs.Layout.{View, putT, runT}
+use Rattle.tables.specs.Layout.{View, idT, kindT, maskT, fixedT, quotaT, lenT, entryT, labelDefaultT, labelWordsT, clearDefaultT, clearWordsT, descriptionT, closureT, putT, runT}
 use Rattle.book.specs.declared.make.NewRow.{NewRow}
-use Rattle.book.specs.Enact.{idT, kindT, maskT, fixedT, quotaT, lenT, entryT, labelDefaultT, labelWordsT, clearDefaultT, clearWordsT, descriptionT, closureT, padded, relabelled, rowFilled}
+use Rattle.book.specs.Enact.{padded, relabelled, rowFilled}
 use Rattle.book.specs.Make.{objectOf, Handed, numbersFilled}
 
 -- ---- n numbers

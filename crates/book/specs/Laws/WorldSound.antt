@@ -16,7 +16,7 @@ use Rattle.rules.specs.Kernel.{gateCode, segmentCode, containerCode, isLive, is
 use Rattle.rules.specs.Sound as W
 use Rattle.rules.specs.Laws.Bools.{bool-cases, not-i, not-both}
 use Rattle.rules.specs.Laws.Kinds.{cleared-live}
-use Rattle.tables.specs.Layout.{View, rowCount}
+use Rattle.tables.specs.Layout.{View, rowCount, labelWordsT, clearWordsT, descriptionT, closureT}
 use Rattle.book.specs.Book.{nextOf, rootOf, idOf, codeOf, maskOf, fixedOf, labelOf, clearanceOf, fromOf, toOf, objectAt, worldOf, ThreadOrGate, isThreadOrGate}
 use Rattle.book.specs.Sound.{Live, Sound}
 use Rattle.book.specs.Placed.{Placed}
@@ -57,10 +57,10 @@ module _ (v : View) (area : List ℕ) (shape : Shape v) (s : Sound v) (r : ℕ) 
   low-code h = leb-true (codeOf v r) gateCode (sym (object-cleared v area r (a .used)) ∙ h)
 
   label-long : length ((labelOf v r) .words) ≡ wordCount
-  label-long = part-length wordCount r (v .labelWords) (a .low) (shape .labelWords-long)
+  label-long = part-length wordCount r (v .labelWords) (a .low) (shape .long labelWordsT)
 
   clearance-long : length ((clearanceOf v r) .words) ≡ wordCount
-  clearance-long = part-length wordCount r (v .clearWords) (a .low) (shape .clearWords-long)
+  clearance-long = part-length wordCount r (v .clearWords) (a .low) (shape .long clearWordsT)
 
   in-range : W.InRange (objectAt v area r)
   in-range =
@@ -79,10 +79,10 @@ module _ (v : View) (area : List ℕ) (shape : Shape v) (s : Sound v) (r : ℕ) 
             (λ t. not-both ((objectAt v area r) .fixed) h (object-unfixed v area r (eqb-false (codeOf v r) segmentCode t)));
         label-words = ap (λ (x : Label). length (x .words)) (object-label v area r) ∙ label-long;
         clearance-words = λ h. ap (λ (x : Label). length (x .words)) (object-clearance v area r (a .used) (low-code h)) ∙ clearance-long;
-        description-size = ap (λ (b : List ℕ). length b) (object-description v area r) ∙ part-length textSize r (v .description) (a .low) (shape .description-long);
+        description-size = ap (λ (b : List ℕ). length b) (object-description v area r) ∙ part-length textSize r (v .description) (a .low) (shape .long descriptionT);
         closure-size = λ h.
             ap (λ (b : List ℕ). length b) (object-closure v area r (eqb-true (codeOf v r) gateCode (sym (object-gate v area r) ∙ h)))
-            ∙ part-length textSize r (v .closure) (a .low) (shape .closure-long);
+            ∙ part-length textSize r (v .closure) (a .low) (shape .long closureT);
       }
 
   formed : W.Formed (nextOf v) (objectAt v area r)

@@ -16,7 +16,6 @@ use Rattle.book.specs.Enact.{areaSize, movedOn, lengthened, areaAfter, enactVie
 use Rattle.book.specs.Sound.{Sound}
 use Rattle.book.specs.Laws.Lengthened.{lengthened-is}
 use Rattle.book.specs.Laws.Resize.{resized-view, resized-enacted}
-use Rattle.book.specs.Laws.Shapes.{view-shape}
 use Rattle.book.specs.Laws.Tie.{row-is}
 use Rattle.calls.specs.declared.Answer.the-variants.{Granted}
 use Rattle.calls.specs.declared.Refusal.{Refusal}
@@ -126,8 +125,8 @@ module _ (b area : List ℕ) (c d s n r j : ℕ) (ready : Ready b area) (go : To
         done-granted b area c (resize d s n) ready b′ long 0 [] (alter s (rewrite (resized n (bytesOf (view b) area r)))) area₁ (go .granted)
         (e ∙ ap movedOn m
         ∙ subst (λ (o : ℕ). movedOn (lengthened r n (view b)) ≡ enactView (alter o (rewrite (resized n (bytesOf (view b) area r)))) (view b) area) i
-        (sym (resized-view (view b) (view-shape b) x r low (go .code) n (go .fits) area)))
+        (sym (resized-view (view b) x r low (go .code) n area)))
         (z
         ∙ subst (λ (o : ℕ). areaAfter (view b) (lengthened r n (view b)) r (resized n (bytesOf (view b) area r)) area
         ≡ enactArea (alter o (rewrite (resized n (bytesOf (view b) area r)))) (view b) area) i
-        (sym (resized-enacted (view b) (view-shape b) x r low (go .code) n (go .fits) area)))
+        (sym (resized-enacted (view b) x r low (go .code) n area)))

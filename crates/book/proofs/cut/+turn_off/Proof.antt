@@ -4,9 +4,8 @@ use mathlib.Core.Logic.{⊎-elim}
 use mathlib.Core.Path.{_≡_, refl, sym, _∙_, ap, subst}
 use mathlib.Core.List.{List}
 use lib.ListN.{length}
-use Rattle.tables.specs.Layout.{View, view, size, linkCount, putT}
+use Rattle.tables.specs.Layout.{View, view, size, linkCount, linkFromT, putT}
 use Rattle.book.specs.Book.{toOf}
-use Rattle.book.specs.Enact.{linkFromT}
 use Rattle.book.specs.Cut.{Linked}
 use Rattle.book.specs.Laws.CutSteps.{liveLinks, Sofar, begun, links-fall, code-read, all-done, next-linked, next-turned, next-skipped}
 use borrow.Fn.Kinds.{In}

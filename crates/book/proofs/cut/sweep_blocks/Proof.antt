@@ -2,8 +2,8 @@ use Prim.Native.Nat.{_-_, _≤_}
 use native.Mathlib.Omega.{arith}
 use mathlib.Core.Path.{_≡_, sym, _∙_}
 use lib.ListN.{length}
-use Rattle.tables.specs.Layout.{view, size, blockCount}
-use Rattle.tables.specs.Layout.Laws.{owner-long}
+use Rattle.tables.specs.Layout.{view, size, blockCount, ownerT}
+use Rattle.tables.specs.Layout.Laws.{tabOf-long}
 use Rattle.book.specs.Enact.{areaSize}
 use Rattle.book.specs.Cut.{Blocked}
 use Rattle.book.specs.Laws.Sweeps.{BlocksTo, blocks-start, blocks-more, blocks-end, blocks-blocked}
@@ -41,7 +41,7 @@ loop-again c =
       block .kept .0 ∙ inv .1,
       inv .2,
       inv .3,
-      blocks-more (view b) area (c .before .before .before .before .before .before .before .before .loop .i) (view (c .before .before .before .before .before .before .before .before .loop .b)) (c .before .before .before .before .before .before .before .before .loop .area) (inv .4) (owner-long b) (c .before .before .before .before .before .before .before .loop-test .taken)
+      blocks-more (view b) area (c .before .before .before .before .before .before .before .before .loop .i) (view (c .before .before .before .before .before .before .before .before .loop .b)) (c .before .before .before .before .before .before .before .before .loop .area) (inv .4) (tabOf-long b ownerT) (c .before .before .before .before .before .before .before .loop-test .taken)
           (view (block .last .0)) (block .last .1 .0) (block .ensures .0) (block .ensures .1),
     )
 
@@ -54,7 +54,7 @@ same-length-2 c = c .before .loop .inv .4 .long ∙ sym (c .before .loop .inv .3
 returns : tie.Need-returns Inv-loop μ-loop
 returns c =
     let a = c .before .before .before .before .args in
-    blocks-end (view (a .b .now)) (a .area .now) (c .before .loop .i) (view (c .before .loop .b)) (c .before .loop .area) (c .before .loop .inv .4) (owner-long (a .b .now)) (c .loop-test .left)
+    blocks-end (view (a .b .now)) (a .area .now) (c .before .loop .i) (view (c .before .loop .b)) (c .before .loop .area) (c .before .loop .inv .4) (tabOf-long (a .b .now) ownerT) (c .loop-test .left)
 
 pub sweep-blocks-spec : {M : Type 1} → statement M
 sweep-blocks-spec =

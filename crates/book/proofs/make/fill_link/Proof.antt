@@ -1,6 +1,6 @@
 use mathlib.Core.Path.{ap, _∙_}
-use Rattle.tables.specs.Layout.{putT}
-use Rattle.book.specs.Enact.{linkToT, linkFilled}
+use Rattle.tables.specs.Layout.{linkToT, putT}
+use Rattle.book.specs.Enact.{linkFilled}
 use borrow.Author.Needs.{needs}
 use Rattle.book.proofs.make.fill_link.Statement.{statement}
 use Rattle.book.proofs.make.fill_link.Tie as tie

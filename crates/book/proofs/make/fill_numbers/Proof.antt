@@ -1,6 +1,5 @@
 use mathlib.Core.Path.{ap, _∙_}
-use Rattle.tables.specs.Layout.{putT}
-use Rattle.book.specs.Enact.{kindT, maskT, fixedT, quotaT, lenT, entryT}
+use Rattle.tables.specs.Layout.{kindT, maskT, fixedT, quotaT, lenT, entryT, putT}
 use Rattle.book.specs.Make.{numbersFilled}
 use borrow.Author.Needs.{needs}
 use Rattle.book.proofs.make.fill_numbers.Statement.{statement}

@@ -1,8 +1,8 @@
 use mathlib.Core.Path.{ap, _∙_}
 use Prim.Native.Nat.{_*_}
 use Rattle.rules.specs.Kernel.{textSize}
-use Rattle.tables.specs.Layout.{View, view, runT}
-use Rattle.book.specs.Enact.{descriptionT, closureT, relabelled}
+use Rattle.tables.specs.Layout.{View, view, descriptionT, closureT, runT}
+use Rattle.book.specs.Enact.{relabelled}
 use Rattle.book.specs.Laws.Handed.{filled-is}
 use borrow.Author.Needs.{needs}
 use Rattle.book.proofs.make.fill_row.Statement.{statement}

@@ -1,8 +1,7 @@
 use mathlib.Core.Path.{ap, _∙_}
 use Prim.Native.Nat.{_*_}
 use Rattle.rules.specs.Kernel.{textSize}
-use Rattle.tables.specs.Layout.{runT}
-use Rattle.book.specs.Enact.{closureT}
+use Rattle.tables.specs.Layout.{closureT, runT}
 use borrow.Author.Needs.{needs}
 use Rattle.book.proofs.make.fill_texts.Statement.{statement}
 use Rattle.book.proofs.make.fill_texts.Tie as tie

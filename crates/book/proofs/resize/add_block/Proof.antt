@@ -1,8 +1,7 @@
 use borrow.Author.Needs.{needs}
 use native.Mathlib.Omega.{arith}
 use mathlib.Core.Path.{refl, sym, _∙_, ap}
-use Rattle.tables.specs.Layout.{view, putT}
-use Rattle.book.specs.Enact.{indexT}
+use Rattle.tables.specs.Layout.{view, indexT, putT}
 use Rattle.book.specs.Laws.Cleared.{free-low, added-at, added-nothing}
 use Rattle.book.proofs.resize.add_block.Statement.{statement}
 use Rattle.book.proofs.resize.add_block.Tie as tie

@@ -1,8 +1,7 @@
 use borrow.Author.Needs.{needs}
 use borrow.Author.Tests.{not-true, not-false}
 use mathlib.Core.Path.{sym, _∙_}
-use Rattle.tables.specs.Layout.{view, putT}
-use Rattle.book.specs.Enact.{ownerT}
+use Rattle.tables.specs.Layout.{view, ownerT, putT}
 use Rattle.book.specs.Resize.{isPast, blockCleared}
 use Rattle.book.specs.Laws.Cleared.{if-true, if-false}
 use Rattle.book.proofs.resize.drop_block.Statement.{statement}

@@ -4,8 +4,8 @@ use lib.ListN.{replicate}
 use Rattle.rules.specs.Kernel.{textSize}
 use Rattle.book.specs.declared.make.NewRow.{NewRow}
 use Prim.Native.Nat.{_+_}
-use Rattle.tables.specs.Layout.{View, putT}
-use Rattle.book.specs.Enact.{nextT, rootT, rowFilled}
+use Rattle.tables.specs.Layout.{View, nextT, rootT, putT}
+use Rattle.book.specs.Enact.{rowFilled}
 use Rattle.book.specs.Make.{objectOf, Handed, rootMade}
 use Rattle.book.specs.Laws.Start.{root-handed}
 use borrow.Author.Needs.{needs}
