@@ -8,6 +8,7 @@ use Rattle.labels.specs.declared.Label.{Label}
 use Rattle.labels.specs.Core.{wordCount}
 use Rattle.quotas.specs.Any.{any, both}
 use Rattle.rules.specs.Kernel.{gateCode, Kind, isGate, isSegment, isContainer, hasClearance, Obj, World, blank, nothing, blockSize, textSize}
+pub use Rattle.rules.specs.Kernel.{blocksOf}
 unfoldable pub use Rattle.rules.specs.Kernel.{kindFrom}
 use Rattle.tables.specs.Layout.{View, rowCount, linkCount, blockCount}
 use Rattle.book.specs.declared.Found.{Found}
@@ -84,10 +85,6 @@ liveRow v r = not (eqb (codeOf v r) 0)
 
 abbrev pub liveLink : View → ℕ → Bool
 liveLink v l = not (eqb (markOf v l) 0)
-
--- the blocks of n bytes
-abbrev pub blocksOf : ℕ → ℕ
-blocksOf n = (n + 63) / 64
 
 -- ---- the lowest place
 

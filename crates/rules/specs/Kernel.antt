@@ -157,10 +157,14 @@ pub record World : Type 0 where
 
 -- ---- units
 
+-- the blocks of n bytes: one for each 64 that there are or begin
+abbrev pub blocksOf : ℕ → ℕ
+blocksOf n = (n + (blockSize - 1)) / blockSize
+
 -- RULES 3.2: "A segment uses 1 unit, and 1 more for each 64 bytes that it has or begins: with n bytes, 1 + (n
 -- + 63) / 64 rounded down."
 unfoldable pub units : ℕ → ℕ
-units n = 1 + (n + 63) / 64
+units n = 1 + blocksOf n
 
 -- RULES 3.3: ".. the quotas of all that is linked in it. A segment linked in two containers counts in full in
 -- each."
