@@ -7,7 +7,9 @@ use lib.Dec.{eqb, leb}
 use Rattle.labels.specs.declared.Label.{Label}
 use Rattle.labels.specs.Core.{wordCount}
 use Rattle.quotas.specs.Any.{any, both}
-use Rattle.rules.specs.Kernel.{threadCode, gateCode, segmentCode, containerCode, Kind, absent, thread, gate, segment, container, isGate, isSegment, isContainer, hasClearance, Obj, World, blank, nothing, blockSize, textSize}
+use Rattle.rules.specs.Kernel.{gateCode, Kind, isGate, isSegment, isContainer, hasClearance, Obj, World, blank, nothing, blockSize, textSize}
+pub use Rattle.rules.specs.Kernel.{blocksOf}
+unfoldable pub use Rattle.rules.specs.Kernel.{kindFrom}
 use Rattle.tables.specs.Layout.{View, rowCount, linkCount, blockCount}
 use Rattle.book.specs.declared.Found.{Found}
 use Rattle.book.specs.declared.Found.the-variants.{At, Nothing}
@@ -84,10 +86,6 @@ liveRow v r = not (eqb (codeOf v r) 0)
 abbrev pub liveLink : View → ℕ → Bool
 liveLink v l = not (eqb (markOf v l) 0)
 
--- the blocks of n bytes
-abbrev pub blocksOf : ℕ → ℕ
-blocksOf n = (n + 63) / 64
-
 -- ---- the lowest place
 
 -- the lowest of n places from i on at which a test holds
@@ -127,24 +125,41 @@ bytesOf v area r = collect (lenOf v r) (λ i. getD area (placeOf v r i) 0)
 
 -- ---- the world
 
-unfoldable pub kindFrom : ℕ → Kind
-kindFrom n = cond (eqb n threadCode) thread (cond (eqb n gateCode) gate (cond (eqb n segmentCode) segment (cond (eqb n containerCode) container absent)))
+-- RULES 1.3 to 1.6: an object with the fields that its kind has; the others are blank, 0, false or empty
+abbrev pub ofKind : Obj → Obj
+ofKind x =
+    record {
+      kind = x .kind;
+      label = x .label;
+      clearance = cond (hasClearance (x .kind)) (x .clearance) blank;
+      quota = x .quota;
+      fixed = cond (isSegment (x .kind)) (x .fixed) false;
+      mask = cond (isContainer (x .kind)) (x .mask) 0;
+      bytes = cond (isSegment (x .kind)) (x .bytes) [];
+      entry = cond (isGate (x .kind)) (x .entry) 0;
+      description = x .description;
+      closure = cond (isGate (x .kind)) (x .closure) [];
+    }
+
+-- what stands in a row beside its kind k and the bytes b
+abbrev pub standing : View → ℕ → Kind → List ℕ → Obj
+standing v r k b =
+    record {
+      kind = k;
+      label = labelOf v r;
+      clearance = clearanceOf v r;
+      quota = quotaOf v r;
+      fixed = eqb (fixedOf v r) 1;
+      mask = maskOf v r;
+      bytes = b;
+      entry = entryOf v r;
+      description = descriptionOf v r;
+      closure = closureOf v r;
+    }
 
 -- the object at a row; fields that its kind does not have are unused bytes
 unfoldable pub objectAt : View → List ℕ → ℕ → Obj
-objectAt v area r =
-    record {
-      kind = kindFrom (codeOf v r);
-      label = labelOf v r;
-      clearance = cond (hasClearance (kindFrom (codeOf v r))) (clearanceOf v r) blank;
-      quota = quotaOf v r;
-      fixed = cond (isSegment (kindFrom (codeOf v r))) (eqb (fixedOf v r) 1) false;
-      mask = cond (isContainer (kindFrom (codeOf v r))) (maskOf v r) 0;
-      bytes = cond (isSegment (kindFrom (codeOf v r))) (bytesOf v area r) [];
-      entry = cond (isGate (kindFrom (codeOf v r))) (entryOf v r) 0;
-      description = descriptionOf v r;
-      closure = cond (isGate (kindFrom (codeOf v r))) (closureOf v r) [];
-    }
+objectAt v area r = ofKind (standing v r (kindFrom (codeOf v r)) (bytesOf v area r))
 
 -- the row of an id: the lowest live row that has it
 abbrev pub hasId : View → ℕ → ℕ → Bool

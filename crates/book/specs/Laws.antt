@@ -11,7 +11,6 @@ pub mod MeansBlocks
 pub mod MeansLinks
 pub mod MeansRows
 pub mod Shapes
-pub mod Worlds
 pub mod CutWorld
 pub mod Alter
 pub mod Handed

@@ -1,28 +1,23 @@
 -- A new object as it is handed to the book: numbers and labels by value, texts as bytes lent. Which object of the rules that is, and what a create and
 -- a link leave, by rows.
 use Prim.Native.Nat.{ℕ, _+_, _<_, _≤_}
-use mathlib.Core.Bool.{cond}
 use mathlib.Core.Path.{_≡_}
 use mathlib.Core.List.{List}
 use lib.ListN.{length, replicate}
-use lib.Dec.{eqb}
 use Rattle.labels.specs.Core.{wordCount, plain, level1, level2}
-use Rattle.rules.specs.Kernel.{threadCode, gateCode, segmentCode, containerCode, Obj, kindCode, containerOf, segmentOf, gateOf, threadOf, textSize, lastNumber, rootQuota}
+use Rattle.rules.specs.Kernel.{threadCode, containerCode, Obj, kindCode, textSize, lastNumber, rootQuota, plainObject}
 use Rattle.tables.specs.Layout.{View, rowCount, size, view, nextT, rootT, idT, kindT, maskT, fixedT, quotaT, lenT, entryT, empty, putT}
 use Rattle.book.specs.declared.Found.{Found}
 use Rattle.book.specs.declared.Found.the-variants.{At, Nothing}
 use Rattle.book.specs.declared.make.NewRow.{NewRow}
-use Rattle.book.specs.Book.{nextOf, onFound}
+use Rattle.book.specs.Book.{nextOf, onFound, kindFrom, ofKind}
 use Rattle.book.specs.Enact.{movedOn, padded, freeRow, freeLink, rowFilled, linkFilled}
 
 -- ---- the object that a new row is
 
--- by its kind's code, with s as its description and x as its closure
+-- by its kind's code, with s as its description and x as its closure; a code that no kind has makes it absent
 unfoldable pub objectOf : NewRow → List ℕ → List ℕ → Obj
-objectOf n s x =
-    cond (eqb (n .kind) threadCode) (threadOf (n .label) (n .clearance) s)
-    (cond (eqb (n .kind) gateCode) (gateOf (n .label) (n .clearance) (n .entry) x s)
-    (cond (eqb (n .kind) segmentCode) (segmentOf (n .label) s (n .quota)) (containerOf (n .label) s (n .mask) (n .quota))))
+objectOf n s x = ofKind (plainObject (kindFrom (n .kind)) (n .label) (n .clearance) (n .quota) (n .mask) (n .entry) s x)
 
 -- What is handed over is what the object has, and zero where its kind has nothing.
 pub record Handed (n : NewRow) (s x : List ℕ) : Type 0 where

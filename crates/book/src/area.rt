@@ -6,9 +6,7 @@ ghost use lib.Seq.{sets};
 ghost use Rattle.tables.specs.Layout.{blockCount};
 ghost use Rattle.book.specs.Enact.{areaSize};
 ghost use Rattle.book.specs.Resize.{cleared, blockCleared};
-
-// The bytes of a block.
-pub const BLOCK_SIZE: usize = 64;
+use super::limits::BLOCK_SIZE;
 
 // Puts the bytes into the area from `place` on.
 pub fn write_area(area: &mut [u8], place: usize, bytes: &[u8])

@@ -2,6 +2,8 @@
 ghost use mathlib.Core.Path.{_≡_};
 ghost use Prim.Native.Nat.{_-_, _<_};
 ghost use Rattle.book.specs.Book.{blocksOf};
+use super::limits::BLOCK_SIZE;
+use super::limits::ROUND_UP;
 
 pub fn wide(x: u8) -> u64
     ensures { λ r. ⌜ (r ≡ x) × (r < 256) ⌝ }
@@ -33,5 +35,5 @@ pub fn row_of(mark: u16) -> usize
 pub fn blocks_of(len: u16) -> usize
     ensures { λ r. ⌜ (r ≡ blocksOf len) × (r < 1025) ⌝ }
 {
-    (index(len) + 63) / 64
+    (index(len) + ROUND_UP) / BLOCK_SIZE
 }

@@ -2,18 +2,18 @@
 ghost use mathlib.Core.Path.{_≡_};
 ghost use Prim.Native.Nat.{_-_, _≤_, _<_};
 ghost use lib.ListN.{length};
-ghost use Rattle.rules.specs.Kernel.{maxLength, resized};
+ghost use Rattle.rules.specs.Kernel.{segmentCode, maxLength, resized};
 ghost use Rattle.tables.specs.Layout.{size, view, rowCount, blockCount};
 ghost use Rattle.book.specs.Book.{codeOf, bytesOf};
 ghost use Rattle.book.specs.Sound.{Sound};
 ghost use Rattle.book.specs.Enact.{areaSize, blockAdded, blocksAdded, blocksDropped, lengthened, areaAfter};
 ghost use Rattle.book.specs.Resize.{isPast, blockDropped, blockWiped, wipedTo, freeCleared, freesCleared, edgeEnd, edgeCleared, betweenCleared};
 use super::Found;
-use super::area::BLOCK_SIZE;
 use super::area::clear_block;
 use super::area::clear_run;
 use super::blocks::block_of;
 use super::blocks::free_block;
+use super::limits::BLOCK_SIZE;
 use super::numbers::blocks_of;
 use tables::BLOCKS;
 use tables::INDEX;
@@ -126,7 +126,7 @@ fn clear_between(b: &[u8], area: &mut [u8], r: usize, m: usize, n: usize)
 
 // The segment at row r becomes n bytes long: bytes that stay are as they were, new ones are zero, and so is every byte that is freed.
 pub fn resize(b: &mut [u8], area: &mut [u8], r: usize, n: u16)
-    requires { ⌜ (length (now b) ≡ size) × (length (now area) ≡ areaSize) × (r < rowCount) × (codeOf (view (now b)) r ≡ 3) × (n ≤ maxLength) × (Sound (view (now b))) ⌝ }
+    requires { ⌜ (length (now b) ≡ size) × (length (now area) ≡ areaSize) × (r < rowCount) × (codeOf (view (now b)) r ≡ segmentCode) × (n ≤ maxLength) × (Sound (view (now b))) ⌝ }
     ensures { λ _. ⌜ (view (now (b .exit)) ≡ lengthened r n (view (now (b .entry)))) × (now (area .exit) ≡ areaAfter (view (now (b .entry))) (lengthened r n (view (now (b .entry)))) r (resized n (bytesOf (view (now (b .entry))) (now (area .entry)) r)) (now (area .entry))) ⌝ }
 {
     let old = get16(b, LEN, r);

@@ -3,13 +3,15 @@ ghost use mathlib.Core.Path.{_≡_};
 ghost use lib.ListN.{length};
 ghost use Rattle.tables.specs.Layout.{size, view};
 ghost use Rattle.book.specs.Test.{soundB, bookB, areasB};
+use super::limits::BLOCK_SIZE;
 use super::sound_blocks::blocks_ok;
 use super::sound_links::links_ok;
 use super::sound_rows::rows_ok;
+use tables::BLOCKS;
 use tables::is_whole;
 
-// The bytes of the data area.
-pub const AREA_LEN: usize = 16384;
+// RULES 1.8: ".. the data area, 16,384 bytes in 256 blocks of 64."
+pub const AREA_LEN: usize = BLOCKS * BLOCK_SIZE;
 
 fn tables_ok(b: &[u8]) -> bool
     requires { ⌜ length (now b) ≡ size ⌝ }

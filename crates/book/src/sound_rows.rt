@@ -14,6 +14,9 @@ use super::kinds::FREE;
 use super::kinds::MAX_MASK;
 use super::kinds::SEGMENT;
 use super::kinds::thread_or_gate;
+use super::limits::LAST_NUMBER;
+use super::limits::MAX_LENGTH;
+use super::limits::ROOT_QUOTA;
 use super::numbers::wide;
 use labels::Rule;
 use labels::WORDS;
@@ -43,12 +46,8 @@ const MARKS: usize = 2039;
 // The bytes that hold them, a bit each.
 const MARK_BYTES: usize = MARKS / 8 + 1;
 
-const MAX_LENGTH: u16 = 16256;
-
-pub const ROOT_QUOTA: u16 = 256;
-
 // One past the last number.
-const NEXT_MOST: u64 = 2305843009213693952;
+const NEXT_MOST: u64 = LAST_NUMBER + 1;
 
 fn range(code: u8, q: u16, n: u16, fixed: u8, mask: u8) -> bool
     ensures { λ r. ⌜ r ≡ rangeN code q n fixed mask ⌝ }

@@ -10,6 +10,7 @@ ghost use Rattle.book.specs.Make.{rootRow, threadRow, rootMade, threadMa
 use super::area::clear_all;
 use super::kinds::CONTAINER;
 use super::kinds::THREAD;
+use super::limits::ROOT_QUOTA;
 use super::make::NewRow;
 use super::make::fill_link;
 use super::make::fill_row;
@@ -27,7 +28,7 @@ fn root_row() -> NewRow
     NewRow {
         kind: CONTAINER,
         mask: 0,
-        quota: 256,
+        quota: ROOT_QUOTA,
         entry: 0,
         label: Label::of_default(Label::LEVEL1),
         clearance: Label::of_default(0),

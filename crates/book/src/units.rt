@@ -11,6 +11,8 @@ use super::find::kind_of;
 use super::find::len_of;
 use super::kinds::CONTAINER;
 use super::kinds::SEGMENT;
+use super::limits::BLOCK_SIZE;
+use super::limits::ROUND_UP;
 use super::numbers::index;
 use tables::LINK_FROM;
 use tables::LINK_TO;
@@ -18,12 +20,17 @@ use tables::LINKS;
 use tables::QUOTA;
 use tables::get16;
 
+// The size of a block, and what rounds up, as numbers of bytes are counted here.
+const BLOCK: u64 = BLOCK_SIZE as u64;
+
+const UP: u64 = ROUND_UP as u64;
+
 // The units of a segment of n bytes.
 pub fn units(n: u64) -> u64
     requires { ⌜ n ≤ maxLength ⌝ }
     ensures { λ r. ⌜ r ≡ kernel.units n ⌝ }
 {
-    1 + (n + 63) / 64
+    1 + (n + UP) / BLOCK
 }
 
 // What link l charges the container at row c with.

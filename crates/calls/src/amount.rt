@@ -12,16 +12,20 @@ pub enum Amount {
 }
 
 // RULES 8.11: "4 unless n is from -256 to 256."
+const MAX_MOVE: i64 = 256;
+
+const MIN_MOVE: i64 = -MAX_MOVE;
+
 pub fn units_of(n: i64) -> Amount
     ensures { λ r. ⌜ r ≡ amountOf n ⌝ }
 {
     if n < 0 {
-        if n < -256 {
+        if n < MIN_MOVE {
             return Amount::Bad;
         }
         return Amount::Out((0 - n) as u64);
     }
-    if 256 < n {
+    if MAX_MOVE < n {
         return Amount::Bad;
     }
     Amount::In(n as u64)

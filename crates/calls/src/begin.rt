@@ -5,10 +5,8 @@ use super::Refusal;
 use book::Found;
 use book::find::next_of;
 use book::find::thread_of;
+use book::limits::LAST_NUMBER;
 use book::sound::areas_sound;
-
-// The last number there is.
-pub const LAST_NUMBER: u64 = 2305843009213693951;
 
 pub fn begin(b: &[u8], area: &[u8], caller: u64) -> Begun
     ensures { λ r. ⌜ BegunAs (now (b .entry)) (now (area .entry)) caller r ⌝ }

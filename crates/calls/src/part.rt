@@ -27,10 +27,10 @@ use labels::Label;
 const MAX_BLOCK: u64 = 253;
 
 // The bytes of a block.
-const BLOCK_SIZE: u64 = 64;
+const BLOCK_SIZE: u64 = book::limits::BLOCK_SIZE as u64;
 
 // The same, as the way from one block of the data area to the next.
-const BLOCK_STEP: usize = 64;
+const BLOCK_STEP: usize = book::limits::BLOCK_SIZE;
 
 // RULES 8.12: ".. or if from + count, reckoned without overflow, is above 64." The sum could wrap, so it is not taken.
 pub fn good_part(k: u64, from: u64, count: u64) -> bool

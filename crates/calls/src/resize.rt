@@ -20,7 +20,7 @@ use book::kinds::SEGMENT;
 use book::units::units;
 
 // RULES 8.14: "4 if the length is above 16,256."
-const MAX_LENGTH: u64 = 16256;
+const MAX_LENGTH: u64 = book::limits::MAX_LENGTH as u64;
 
 fn judge(b: &[u8], area: &[u8], caller: u64, d: u64, s: u64, length: u64) -> Judged
     ensures { λ r. ⌜ ResizeJudged (now (b .entry)) (now (area .entry)) caller d s length r ⌝ }

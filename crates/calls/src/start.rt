@@ -6,7 +6,7 @@ use book::sound::AREA_LEN;
 use tables::is_whole;
 
 // The largest first number: two more are taken at once, and a call must still have one.
-pub const LAST_FIRST: u64 = 2305843009213693949;
+pub const LAST_FIRST: u64 = book::limits::LAST_NUMBER - 2;
 
 pub fn start(b: &mut [u8], area: &mut [u8], first: u64) -> u64
     ensures { λ r. ⌜ Started (now (b .entry)) (now (area .entry)) first r (now (b .exit)) (now (area .exit)) ⌝ }

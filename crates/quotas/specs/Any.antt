@@ -1,5 +1,5 @@
 -- Tests over the indices below n: whether one of them passes.
-use mathlib.Core.Path.{_≡_, refl, sym, _∙_, subst}
+use mathlib.Core.Path.{_≡_, refl, sym, _∙_, ap₂, subst}
 use mathlib.Core.Bool.{Bool, true, false}
 use mathlib.Core.Logic.{⊎-elim, _⊎_, inl, inr}
 use Prim.Native.Nat.{ℕ, zero, suc, _<_}
@@ -61,3 +61,9 @@ unfolding any
 any-of zero t i l e = absurd (not-suc-le-zero l)
 any-of (suc n) t i l e =
     ⊎-elim (λ q. either-left (t n) (any n t) (subst (λ (k : ℕ). t k ≡ true) q e)) (λ k. either-right (t n) (any n t) (any-of n t i k e)) (eq-or-lt-of-le (le-of-suc-le-suc l))
+
+-- the same tests, the same answer
+pub any-cong : (n : ℕ) (t u : ℕ → Bool) → ((i : ℕ) → i < n → t i ≡ u i) → any n t ≡ any n u
+unfolding any
+any-cong zero t u h = refl
+any-cong (suc n) t u h = ap₂ either (h n (omega arith)) (any-cong n t u (λ i l. h i (omega arith)))

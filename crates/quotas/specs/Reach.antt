@@ -8,7 +8,7 @@ use lib.Dec.{eqb}
 use borrow.Author.Tests.{ne-eqb}
 use Rattle.quotas.specs.Any.{no-both}
 use Rattle.quotas.specs.Sum.{Σ, when, put, put-here, put-else, sum-cong, sum-mono, sum-add, sum-none, sum-swap, sum-term, sum-change, sum-pick, when-true, when-false, when-none}
-use Rattle.quotas.specs.Tree.{View, Sound, Way, here, step, links, quota-falls, way-falls}
+use Rattle.quotas.specs.Tree.{View, Sound, Way, here, step, links, quota-falls}
 use Rattle.quotas.specs.Room.{link-of, all-held}
 
 module _ (v : View) (n m root : ℕ) (s : Sound v n m root) where
@@ -41,10 +41,6 @@ module _ (v : View) (n m root : ℕ) (s : Sound v n m root) where
           let p = s .par-con l lm on in
           let (j, w) = con-reached (v .par l) (p .0) (p .1) in
           (suc j, subst (λ (x : ℕ). Way v m (suc j) root x) ob (step l lm on w))
-
-  -- so no quota is above 256
-  pub quota-most : (r : ℕ) → r < n → v .live r ≡ true → v .quota r ≤ 256
-  quota-most r h e = let (j, w) = reached r h e in omega (arith, way-falls v n m root s w, s .root-quota)
 
 -- ---- blocks
 -- block b is used and is row `own b`'s; each row has as many blocks as it holds beyond 1
@@ -84,8 +80,8 @@ module _ (v : View) (n m root : ℕ) (s : Sound v n m root) (blocks : ℕ) (used
             sum-none blocks (λ b. when (used b) (when (eqb (own b) r) 1)) (λ b i. when-none (used b) _ (λ u. when-false (eqb (own b) r) 1 (ne-eqb (own b) r (λ q. no-both (v .live (own b)) (k .owned b i u .1) (ap (v .live) q ∙ e))))),
           )
 
-  -- blocks in use, the root's own unit, and what one segment may still grow by, are within 256
-  pub blocks-held : (r : ℕ) → r < n → v .live r ≡ true → v .con r ≡ false → 1 + Σ blocks (λ b. when (used b) 1) + (v .quota r - v .hold r) ≤ 256
+  -- blocks in use, the root's own unit, and what one segment may still grow by, are within the root's quota
+  pub blocks-held : (r : ℕ) → r < n → v .live r ≡ true → v .con r ≡ false → 1 + Σ blocks (λ b. when (used b) 1) + (v .quota r - v .hold r) ≤ v .quota root
   blocks-held r h e nc =
       let full = put (v .hold) r (v .quota r) in
       omega (

@@ -51,18 +51,17 @@ module _ (v : View) (n m root : ℕ) (s : Sound v n m root) where
 
   -- what all live rows hold, or any h that no row's quota forbids, and one container's spare, are within the root's quota
   module _ (h : ℕ → ℕ) (con-one : (r : ℕ) → v .con r ≡ true → h r ≤ 1) (leaf-less : (r : ℕ) → r < n → v .live r ≡ true → v .con r ≡ false → h r ≤ v .quota r) where
-    pub all-held : (c : ℕ) → c < n → v .con c ≡ true → Σ n (λ r. when (v .live r) (h r)) + spare-of v m c ≤ 256
+    pub all-held : (c : ℕ) → c < n → v .con c ≡ true → Σ n (λ r. when (v .live r) (h r)) + spare-of v m c ≤ v .quota root
     all-held c k e =
         omega (
           arith,
           held-within v n m root s (v .con) root whole (v .live) all-live h con-one leaf-less,
-          s .root-quota,
           sum-term n (λ c. when (v .con c) (spare-of v m c)) c k,
           when-true (v .con c) (spare-of v m c) e,
         )
 
-  -- (b) a row is free
-  pub row-free : n ≡ 256 → (c : ℕ) → c < n → v .con c ≡ true → 1 ≤ spare-of v m c → (r : ℕ) × (r < n) × (v .live r ≡ false)
+  -- (b) a row is free, where there are as many as the root has units
+  pub row-free : v .quota root ≤ n → (c : ℕ) → c < n → v .con c ≡ true → 1 ≤ spare-of v m c → (r : ℕ) × (r < n) × (v .live r ≡ false)
   row-free all c k e sp =
       free-one n (v .live) (omega (arith, all-held (λ r. 1) (λ r t. omega arith) (λ r lt t nc. omega (arith, s .holds r lt t)) c k e))
 
@@ -90,7 +89,7 @@ module _ (v : View) (n m root : ℕ) (s : Sound v n m root) where
           )
 
   -- live links, the root's row and one container's spare are within the root's quota
-  pub links-held : (c : ℕ) → c < n → v .con c ≡ true → 1 + Σ m (λ l. when (v .on l) 1) + spare-of v m c ≤ 256
+  pub links-held : (c : ℕ) → c < n → v .con c ≡ true → 1 + Σ m (λ l. when (v .on l) 1) + spare-of v m c ≤ v .quota root
   links-held c k e =
       omega (
         arith,
@@ -98,11 +97,10 @@ module _ (v : View) (n m root : ℕ) (s : Sound v n m root) where
         sum-add m (inner v (v .con) (λ c. 1)) (leaf v (v .con)),
         by-links v n m root s (v .con) root whole (λ c. 1),
         telescope v n m root s (v .con) root whole,
-        s .root-quota,
         sum-term n (λ c. when (v .con c) (spare-of v m c)) c k,
         when-true (v .con c) (spare-of v m c) e,
       )
 
-  -- (b) a link is free: 255 of them are enough
-  pub link-free : 255 ≤ m → (c : ℕ) → c < n → v .con c ≡ true → 1 ≤ spare-of v m c → (l : ℕ) × (l < m) × (v .on l ≡ false)
+  -- (b) a link is free: one less of them is enough
+  pub link-free : v .quota root ≤ 1 + m → (c : ℕ) → c < n → v .con c ≡ true → 1 ≤ spare-of v m c → (l : ℕ) × (l < m) × (v .on l ≡ false)
   link-free all c k e sp = free-one m (v .on) (omega (arith, links-held c k e))

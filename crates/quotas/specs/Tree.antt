@@ -39,7 +39,6 @@ pub record Sound (v : View) (n m root : ℕ) : Type 0 where
   pub con-live : (c : ℕ) → v .con c ≡ true → v .live c ≡ true
   pub root-in : root < n
   pub root-con : v .con root ≡ true
-  pub root-quota : v .quota root ≡ 256
   pub root-none : links v m root ≡ 0
   pub one : (c : ℕ) → c < n → v .con c ≡ true → (c ≡ root → ⊥) → links v m c ≡ 1
   pub some : (r : ℕ) → r < n → v .live r ≡ true → v .con r ≡ false → 1 ≤ links v m r
@@ -92,9 +91,6 @@ leaf v S l = when (v .on l) (when (S (v .par l)) (when (not (v .con (v .obj l)))
 
 unfoldable pub spare-of : View → ℕ → ℕ → ℕ
 spare-of v m c = v .quota c - use-of v m c
-
-count-of : (ℕ → Bool) → ℕ → ℕ
-count-of S n = Σ n (λ c. when (S c) 1)
 
 module _ (v : View) (n m root : ℕ) (s : Sound v n m root) (S : ℕ → Bool) (d : ℕ) (p : Part v n m S d) (g : ℕ → ℕ) where
   -- each container's own quota, by way of the link that it hangs by

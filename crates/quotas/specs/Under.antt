@@ -18,9 +18,9 @@ unfoldable pub within-steps : View → ℕ → ℕ → ℕ → ℕ → Bool
 within-steps v m d zero r = eqb r d
 within-steps v m d (suc k) r = either (eqb r d) (any m (λ l. both (v .on l) (both (eqb (v .obj l) r) (within-steps v m d k (v .par l)))))
 
--- r lies in the tree of d: a quota is at most 256, so no way is longer
+-- r lies in the tree of d: the quota falls along every link, so no way is longer than d's
 unfoldable pub in-tree : View → ℕ → ℕ → ℕ → Bool
-in-tree v m d r = within-steps v m d 256 r
+in-tree v m d r = within-steps v m d (v .quota d) r
 
 -- its containers
 unfoldable pub tree-con : View → ℕ → ℕ → ℕ → Bool
@@ -74,16 +74,16 @@ module _ (v : View) (m : ℕ) where
           let o : Σ m (λ l. when (v .on l) (when (eqb (v .obj l) r) 1)) ≡ 1 = one in
           omega (arith, two m (λ l. when (v .on l) (when (eqb (v .obj l) r) 1)) l k lm km ne (pos l ol el) (pos k ok ek))
 
-module _ (v : View) (n m root : ℕ) (s : Sound v n m root) (d : ℕ) (d-most : v .quota d ≤ 256) where
+module _ (v : View) (n m root : ℕ) (s : Sound v n m root) (d : ℕ) where
   pub tree-way : (r : ℕ) → in-tree v m d r ≡ true → (j : ℕ) × (Way v m j d r)
   unfolding in-tree
-  tree-way r e = steps-way v m d 256 r e
+  tree-way r e = steps-way v m d (v .quota d) r e
 
   pub way-tree : {j r : ℕ} → Way v m j d r → in-tree v m d r ≡ true
   unfolding in-tree
-  way-tree w = way-steps v m w 256 (omega (arith, way-falls v n m root s w, d-most))
+  way-tree w = way-steps v m w (v .quota d) (omega (arith, way-falls v n m root s w))
 
-module _ (v : View) (n m root : ℕ) (s : Sound v n m root) (d : ℕ) (d-in : d < n) (d-con : v .con d ≡ true) (d-most : v .quota d ≤ 256) where
+module _ (v : View) (n m root : ℕ) (s : Sound v n m root) (d : ℕ) (d-in : d < n) (d-con : v .con d ≡ true) where
   -- what hangs by a link is not the root
   not-root : (l : ℕ) → l < m → v .on l ≡ true → v .obj l ≡ root → ⊥
   not-root l h on e = let a : links v m root ≡ 0 = s .root-none in omega (arith, counted v n m root s l root h on e)
@@ -92,31 +92,31 @@ module _ (v : View) (n m root : ℕ) (s : Sound v n m root) (d : ℕ) (d-in : d 
   last-step : (l : ℕ) → l < m → v .on l ≡ true → links v m (v .obj l) ≡ 1 → (v .obj l ≡ d → ⊥) → {j r : ℕ} → Way v m j d r → r ≡ v .obj l → in-tree v m d (v .par l) ≡ true
   last-step l h on one ne (here c) e = absurd (ne (sym e))
   last-step l h on one ne (step k hk ok w) e =
-      subst (λ (x : ℕ). in-tree v m d (v .par x) ≡ true) (same-link v m k l (v .obj l) hk h ok on e refl one) (way-tree v n m root s d d-most w)
+      subst (λ (x : ℕ). in-tree v m d (v .par x) ≡ true) (same-link v m k l (v .obj l) hk h ok on e refl one) (way-tree v n m root s d w)
 
   -- a way down that goes anywhere ends in a link
   last-link : {j r : ℕ} → Way v m j d r → (r ≡ d → ⊥) → (l : ℕ) × (l < m) × (v .on l ≡ true) × (v .obj l ≡ r) × (in-tree v m d (v .par l) ≡ true)
   last-link (here c) ne = absurd (ne refl)
-  last-link (step l h on w) ne = (l, h, on, refl, way-tree v n m root s d d-most w)
+  last-link (step l h on w) ne = (l, h, on, refl, way-tree v n m root s d w)
 
   pub tree-part : Part v n m (tree-con v m d) d
   unfolding tree-con
   tree-part = record {
     top-in = d-in;
-    top = both-of (v .con d) _ d-con (way-tree v n m root s d d-most (here d));
+    top = both-of (v .con d) _ d-con (way-tree v n m root s d (here d));
     are-con = λ c e. both-parts (v .con c) _ e .0;
-    down = λ l h on sp isC. both-of (v .con (v .obj l)) _ isC (way-tree v n m root s d d-most (step l h on (tree-way v n m root s d d-most (v .par l) (both-parts (v .con (v .par l)) _ sp .1) .1)));
+    down = λ l h on sp isC. both-of (v .con (v .obj l)) _ isC (way-tree v n m root s d (step l h on (tree-way v n m root s d (v .par l) (both-parts (v .con (v .par l)) _ sp .1) .1)));
     up = λ l h on so ne.
         let q = both-parts (v .con (v .obj l)) _ so in
         let one : links v m (v .obj l) ≡ 1 = s .one (v .obj l) (s .obj-live l h on .0) (q .0) (not-root l h on) in
-        both-of (v .con (v .par l)) _ (s .par-con l h on .1) (last-step l h on one ne (tree-way v n m root s d d-most (v .obj l) (q .1) .1) refl);
+        both-of (v .con (v .par l)) _ (s .par-con l h on .1) (last-step l h on one ne (tree-way v n m root s d (v .obj l) (q .1) .1) refl);
     over = λ l h on e sp.
-        let w = tree-way v n m root s d d-most (v .par l) (both-parts (v .con (v .par l)) _ sp .1) in
+        let w = tree-way v n m root s d (v .par l) (both-parts (v .con (v .par l)) _ sp .1) in
         no-cycle v n m root s (w .0) d (subst (λ (x : ℕ). Way v m (suc (w .0)) d x) e (step l h on (w .1)));
     hung = λ c k e ne.
         let q = both-parts (v .con c) _ e in
         s .one c k (q .0) (λ isRoot.
-        let (l, h, on, ob, pa) = last-link (tree-way v n m root s d d-most c (q .1) .1) ne in
+        let (l, h, on, ob, pa) = last-link (tree-way v n m root s d c (q .1) .1) ne in
         not-root l h on (ob ∙ isRoot));
   }
 
@@ -125,7 +125,7 @@ module _ (v : View) (n m root : ℕ) (s : Sound v n m root) (d : ℕ) (d-in : d 
   tree-within = record {
     con-in = λ r t e. both-of (v .con r) _ e t;
     by-link = λ r k t e.
-        let (l, h, on, ob, pa) = last-link (tree-way v n m root s d d-most r t .1) (λ q. no-both (v .con r) (subst (λ (x : ℕ). v .con x ≡ true) (sym q) d-con) e) in
+        let (l, h, on, ob, pa) = last-link (tree-way v n m root s d r t .1) (λ q. no-both (v .con r) (subst (λ (x : ℕ). v .con x ≡ true) (sym q) d-con) e) in
         (l, h, on, both-of (v .con (v .par l)) _ (s .par-con l h on .1) pa, ob);
   }
 

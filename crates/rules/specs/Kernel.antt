@@ -98,6 +98,10 @@ kindCode gate = gateCode
 kindCode segment = segmentCode
 kindCode container = containerCode
 
+-- the kind of a code
+unfoldable pub kindFrom : ℕ → Kind
+kindFrom n = cond (eqb n threadCode) thread (cond (eqb n gateCode) gate (cond (eqb n segmentCode) segment (cond (eqb n containerCode) container absent)))
+
 unfoldable pub isLive : Kind → Bool
 isLive k = not (eqb (kindCode k) 0)
 
@@ -134,9 +138,13 @@ pub record Obj : Type 0 where
 unfoldable pub blank : Label
 blank = record { default = 0; words = [] }
 
+-- an object as it is made, by its fields: its quota is not fixed, and it has no bytes
+abbrev pub plainObject : (kind : Kind) (label clearance : Label) (quota mask entry : ℕ) (description closure : List ℕ) → Obj
+plainObject k l c q m e s x =
+    record { kind = k; label = l; clearance = c; quota = q; fixed = false; mask = m; bytes = []; entry = e; description = s; closure = x }
+
 unfoldable pub nothing : Obj
-nothing =
-    record { kind = absent; label = blank; clearance = blank; quota = 0; fixed = false; mask = 0; bytes = []; entry = 0; description = []; closure = [] }
+nothing = plainObject absent blank blank 0 0 0 [] []
 
 -- RULES 4.1: "The book keeps the next number." 1.7: "A link puts an object into a container; .. One
 -- container, the root, is linked nowhere." The next number, the root's id, the object of each id, and which
@@ -149,10 +157,14 @@ pub record World : Type 0 where
 
 -- ---- units
 
+-- the blocks of n bytes: one for each 64 that there are or begin
+abbrev pub blocksOf : ℕ → ℕ
+blocksOf n = (n + (blockSize - 1)) / blockSize
+
 -- RULES 3.2: "A segment uses 1 unit, and 1 more for each 64 bytes that it has or begins: with n bytes, 1 + (n
 -- + 63) / 64 rounded down."
 unfoldable pub units : ℕ → ℕ
-units n = 1 + (n + 63) / 64
+units n = 1 + blocksOf n
 
 -- RULES 3.3: ".. the quotas of all that is linked in it. A segment linked in two containers counts in full in
 -- each."
@@ -182,15 +194,16 @@ pub data Edit : Type 0 where
   requota : (quota : ℕ) → Edit
   rewrite : (bytes : List ℕ) → Edit
 
+-- an object with these of its fields new; the others are never altered
+abbrev pub altered : Obj → (label clearance : Label) (quota : ℕ) (fixed : Bool) (bytes : List ℕ) → Obj
+altered o l c q f b =
+    record { kind = o .kind; label = l; clearance = c; quota = q; fixed = f; mask = o .mask; bytes = b; entry = o .entry; description = o .description; closure = o .closure }
+
 unfoldable pub edit : Edit → Obj → Obj
-edit (relabel l c) o =
-    record { kind = o .kind; label = l; clearance = c; quota = o .quota; fixed = o .fixed; mask = o .mask; bytes = o .bytes; entry = o .entry; description = o .description; closure = o .closure }
-edit fix o =
-    record { kind = o .kind; label = o .label; clearance = o .clearance; quota = o .quota; fixed = true; mask = o .mask; bytes = o .bytes; entry = o .entry; description = o .description; closure = o .closure }
-edit (requota q) o =
-    record { kind = o .kind; label = o .label; clearance = o .clearance; quota = q; fixed = o .fixed; mask = o .mask; bytes = o .bytes; entry = o .entry; description = o .description; closure = o .closure }
-edit (rewrite b) o =
-    record { kind = o .kind; label = o .label; clearance = o .clearance; quota = o .quota; fixed = o .fixed; mask = o .mask; bytes = b; entry = o .entry; description = o .description; closure = o .closure }
+edit (relabel l c) o = altered o l c (o .quota) (o .fixed) (o .bytes)
+edit fix o = altered o (o .label) (o .clearance) (o .quota) true (o .bytes)
+edit (requota q) o = altered o (o .label) (o .clearance) q (o .fixed) (o .bytes)
+edit (rewrite b) o = altered o (o .label) (o .clearance) (o .quota) (o .fixed) b
 
 -- nothing (calls 12 and 16), one object altered (1 to 3, 10, 11 and 13 to 15), one created in a container (4 to 7), one
 -- link cut with all that hangs on it (8), one segment linked (9)
@@ -413,23 +426,19 @@ make w t d x more =
     (grant (w .next) [] (create d x)))))
 
 unfoldable pub containerOf : Label → List ℕ → ℕ → ℕ → Obj
-containerOf l s m q =
-    record { kind = container; label = l; clearance = blank; quota = q; fixed = false; mask = m; bytes = []; entry = 0; description = s; closure = [] }
+containerOf l s m q = plainObject container l blank q m 0 s []
 
 -- RULES 8.5: "The segment has no bytes yet, and its quota is not fixed."
 unfoldable pub segmentOf : Label → List ℕ → ℕ → Obj
-segmentOf l s q =
-    record { kind = segment; label = l; clearance = blank; quota = q; fixed = false; mask = 0; bytes = []; entry = 0; description = s; closure = [] }
+segmentOf l s q = plainObject segment l blank q 0 0 s []
 
 -- RULES 8.6: ".. with quota 1."
 unfoldable pub gateOf : Label → Label → ℕ → List ℕ → List ℕ → Obj
-gateOf l c e x s =
-    record { kind = gate; label = l; clearance = c; quota = 1; fixed = false; mask = 0; bytes = []; entry = e; description = s; closure = x }
+gateOf l c e x s = plainObject gate l c 1 0 e s x
 
 -- RULES 8.7: ".. with quota 1."
 unfoldable pub threadOf : Label → Label → List ℕ → Obj
-threadOf l c s =
-    record { kind = thread; label = l; clearance = c; quota = 1; fixed = false; mask = 0; bytes = []; entry = 0; description = s; closure = [] }
+threadOf l c s = plainObject thread l c 1 0 0 s []
 
 -- RULES 8.1: "T's clearance gets level 3 there, by a pair unless its default is level 3."
 unfoldable pub clearedAt : ℕ → Label → Label

@@ -2,7 +2,9 @@
 pub mod Bools
 pub mod Kinds
 pub mod Must
+pub mod Entries
 pub mod Put
+pub mod Worlds
 pub mod Usage
 pub mod Edit
 pub mod Booked

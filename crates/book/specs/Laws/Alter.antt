@@ -12,12 +12,14 @@ use lib.Dec.{eqb, ltb}
 use borrow.Author.Tests.{eq-eqb, le-leb, ltb-true, ltb-false}
 use Rattle.labels.specs.declared.Label.{Label}
 use Rattle.labels.specs.Core.{wordCount}
+use Rattle.labels.specs.Core.Same.{label-ext}
 use Rattle.quotas.specs.Any.{any, both}
 use Rattle.quotas.specs.Sum.{Σ, when}
-use Rattle.rules.specs.Kernel.{gateCode, segmentCode, maxCode, blank, Edit, relabel, fix, requota, edit, keep, alter, apply, hasClearance, isSegment}
+use Rattle.rules.specs.Kernel.{gateCode, segmentCode, maxCode, blank, Edit, relabel, fix, requota, edit, keep, alter, apply, hasClearance, isSegment, Obj, altered}
 use Rattle.rules.specs.Laws.Bools.{bool-cases}
 use Rattle.rules.specs.Laws.Put.{put-same, put-other}
 use Rattle.tables.specs.Layout.{View, rowCount, linkCount, blockCount, nextT, fixedT, quotaT, labelDefaultT, labelWordsT, clearDefaultT, clearWordsT, putT, runT}
+use Rattle.rules.specs.Laws.Worlds.{world-ext}
 use Rattle.tables.specs.Layout.Laws.{within}
 use Rattle.tables.specs.Layout.Runs.{sets-read, sets-before, sets-behind}
 use Rattle.book.specs.Book.{nextOf, rootOf, idOf, codeOf, fixedOf, quotaOf, lenOf, labelOf, clearanceOf, fromOf, toOf, ownerOf, indexOf, blocksOf, first, blockAt, placeOf, bytesOf, kindFrom, objectAt, rowOf, worldOf, ThreadOrGate}
@@ -29,7 +31,6 @@ use Rattle.book.specs.Laws.Codes.{segment-from, cleared-from}
 use Rattle.book.specs.Laws.First.{found-cases}
 use Rattle.book.specs.Laws.Tie.{row-found, row-is, obj-found, obj-missing, obj-at}
 use Rattle.book.specs.Laws.Shapes.{put-shape, run-shape}
-use Rattle.book.specs.Laws.Worlds.{world-ext, obj-ext, label-ext}
 
 -- ---- fields that are runs of numbers: n for each row
 
@@ -197,8 +198,7 @@ module _ (v : View) (area : List ℕ) (r : ℕ) (l c : Label) where
       → cond (hasClearance (kindFrom (codeOf v s))) (clearanceOf (relabelled r l c v) s) blank ≡ d
       → objectAt (relabelled r l c v) area s ≡ edit (relabel m d) (objectAt v area s)
   unfolding relabelled objectAt bytesOf placeOf blockAt edit
-  relabelled-object s m d e f =
-      obj-ext (objectAt (relabelled r l c v) area s) (edit (relabel m d) (objectAt v area s)) refl e f refl refl refl refl refl refl refl
+  relabelled-object s m d e f = ap₂ (λ (x y : Label). edit (relabel x y) (objectAt v area s)) e f
 
   -- The labels of a thread or gate are edited.
   pub relabelled-altered : Shape v → Live v r → ThreadOrGate (codeOf v r) → length (l .words) ≡ wordCount → length (c .words) ≡ wordCount
@@ -218,6 +218,10 @@ module _ (v : View) (area : List ℕ) (r : ℕ) (l c : Label) where
 
 -- ---- a quota is fixed
 
+-- an object whose quota is fixed or not
+abbrev marked : Bool → Obj → Obj
+marked b x = altered x (x .label) (x .clearance) (x .quota) b (x .bytes)
+
 module _ (v : View) (z : Shape v) (r : ℕ) where
   -- A row's mark is set, another's stays, and the tables keep their lengths.
   pub fixed-here : r < rowCount → fixedOf (fixedAt r v) r ≡ 1
@@ -235,20 +239,9 @@ module _ (v : View) (z : Shape v) (r : ℕ) where
 module _ (v : View) (area : List ℕ) (r : ℕ) where
   -- what fixing leaves of an object
   fixed-object : (s : ℕ) (b : Bool) → cond (isSegment (kindFrom (codeOf v s))) (eqb (fixedOf (fixedAt r v) s) 1) false ≡ b
-      → objectAt (fixedAt r v) area s ≡ record {
-        kind = (objectAt v area s) .kind;
-        label = (objectAt v area s) .label;
-        clearance = (objectAt v area s) .clearance;
-        quota = (objectAt v area s) .quota;
-        fixed = b;
-        mask = (objectAt v area s) .mask;
-        bytes = (objectAt v area s) .bytes;
-        entry = (objectAt v area s) .entry;
-        description = (objectAt v area s) .description;
-        closure = (objectAt v area s) .closure;
-      }
+      → objectAt (fixedAt r v) area s ≡ marked b (objectAt v area s)
   unfolding fixedAt objectAt bytesOf placeOf blockAt
-  fixed-object s b e = obj-ext (objectAt (fixedAt r v) area s) _ refl refl refl refl e refl refl refl refl refl
+  fixed-object s b e = ap (λ (t : Bool). marked t (objectAt v area s)) e
 
   -- A segment's quota is fixed.
   pub fixed-altered : Shape v → Live v r → codeOf v r ≡ segmentCode → Altered v (fixedAt r v) area area r fix
@@ -285,8 +278,7 @@ module _ (v : View) (area : List ℕ) (r q : ℕ) where
   -- what a moved quota leaves of an object
   requotaed-object : (s n : ℕ) → quotaOf (requotaed r q v) s ≡ n → objectAt (requotaed r q v) area s ≡ edit (requota n) (objectAt v area s)
   unfolding requotaed objectAt bytesOf placeOf blockAt edit
-  requotaed-object s n e =
-      obj-ext (objectAt (requotaed r q v) area s) (edit (requota n) (objectAt v area s)) refl refl refl e refl refl refl refl refl refl
+  requotaed-object s n e = ap (λ (q : ℕ). edit (requota q) (objectAt v area s)) e
 
   -- An object's quota is moved.
   pub requotaed-altered : Shape v → Live v r → Altered v (requotaed r q v) area area r (requota q)

@@ -5,7 +5,7 @@ use mathlib.Core.Bool.{Bool, not, _||_}
 use mathlib.Core.Path.{_≡_, refl, sym, _∙_, ap, ap₂}
 use lib.Dec.{eqb, leb}
 use borrow.Author.Tests.{eqb-true, eqb-false, eq-eqb, ne-eqb, le-leb, leb-true, leb-false}
-use Rattle.rules.specs.Kernel.{threadCode, gateCode, segmentCode, containerCode, maxCode, Kind, absent, thread, gate, segment, container, kindCode, isLive, isThread, isGate, isSegment, isContainer, hasClearance}
+use Rattle.rules.specs.Kernel.{threadCode, gateCode, segmentCode, containerCode, maxCode, Kind, absent, kindCode, isLive, isThread, isGate, isSegment, isContainer, hasClearance}
 use Rattle.rules.specs.Laws.Bools.{bool-cases, same-by, or-cases, or-i-l, or-i-r}
 use Rattle.book.specs.Book.{kindFrom, isThreadOrGate}
 
@@ -18,15 +18,6 @@ code-from (suc (suc zero)) h = refl
 code-from (suc (suc (suc zero))) h = refl
 code-from (suc (suc (suc (suc zero)))) h = refl
 code-from (suc (suc (suc (suc (suc n))))) h = absurd (omega arith)
-
--- The code of a kind is that of the kind.
-pub kind-from : (k : Kind) → kindFrom (kindCode k) ≡ k
-unfolding kindFrom kindCode
-kind-from absent = refl
-kind-from thread = refl
-kind-from gate = refl
-kind-from segment = refl
-kind-from container = refl
 
 -- Codes above the last are no kind's.
 pub code-other : (n : ℕ) → maxCode < n → kindFrom n ≡ absent

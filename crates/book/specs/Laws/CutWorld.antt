@@ -4,22 +4,23 @@ use native.Mathlib.Numerals.{add-one}
 use native.Mathlib.Omega.{arith}
 use mathlib.Core.Bool.{Bool, true, false, cond, false≢true}
 use mathlib.Core.Path.{_≡_, refl, sym, _∙_, ap, ap₂, subst}
-use mathlib.Core.List.{List, []}
+use mathlib.Core.List.{List}
 use lib.ListN.{length, getD}
 use lib.Seq.{getD-set-same}
 use lib.Dec.{eqb}
 use borrow.Author.Tests.{eqb-true, eq-eqb, ne-eqb}
 use Rattle.quotas.specs.Any.{both, both-parts}
 use Rattle.quotas.specs.Sum.{when, sum-cong, sum-pos, when-pos}
-use Rattle.rules.specs.Kernel.{segmentCode, containerCode, Obj, nothing, isGate, isSegment, isContainer, hasClearance, blank, cut, stays, kept, apply, blockSize, lastNumber}
+use Rattle.rules.specs.Kernel.{segmentCode, containerCode, Obj, nothing, cut, stays, kept, apply, blockSize, lastNumber}
 use Rattle.rules.specs.Sound as W
 use Rattle.rules.specs.Laws.KeepCut.{keep-cut}
 use Rattle.rules.specs.Laws.Bools.{bool-cases, not-both, same-by}
 use Rattle.rules.specs.Laws.Below.{stays-linked, stays-not-below, stays-kept, container-kept}
 use Rattle.tables.specs.Layout.{View, rowCount, linkCount, blockCount, nextT, kindT, linkFromT, ownerT}
+use Rattle.rules.specs.Laws.Worlds.{world-ext}
 use Rattle.book.specs.declared.Found.{Found}
 use Rattle.book.specs.declared.Found.the-variants.{At}
-use Rattle.book.specs.Book.{nextOf, rootOf, idOf, codeOf, maskOf, fixedOf, quotaOf, lenOf, entryOf, labelOf, clearanceOf, descriptionOf, closureOf, markOf, fromOf, toOf, ownerOf, indexOf, blocksOf, first, onFound, isBlock, blockAt, placeOf, collect, bytesOf, kindFrom, objectAt, rowOf, worldOf}
+use Rattle.book.specs.Book.{nextOf, rootOf, idOf, codeOf, fixedOf, lenOf, markOf, fromOf, toOf, ownerOf, indexOf, blocksOf, first, onFound, isBlock, blockAt, placeOf, collect, bytesOf, kindFrom, objectAt, rowOf, worldOf, ofKind, standing}
 use Rattle.book.specs.Sound.{Live, On, Used, Owned, Sound, timesHeld}
 use Rattle.book.specs.Placed.{Placed}
 use Rattle.book.specs.Shape.{Shape}
@@ -70,19 +71,7 @@ place-in v r i m e = ap (λ (x : ℕ). blockSize * x + i % blockSize) e
 
 -- the object at row r, were its code c and its bytes x
 unfoldable pub objectWith : View → ℕ → ℕ → List ℕ → Obj
-objectWith v r c x =
-    record {
-      kind = kindFrom c;
-      label = labelOf v r;
-      clearance = cond (hasClearance (kindFrom c)) (clearanceOf v r) blank;
-      quota = quotaOf v r;
-      fixed = cond (isSegment (kindFrom c)) (eqb (fixedOf v r) 1) false;
-      mask = cond (isContainer (kindFrom c)) (maskOf v r) 0;
-      bytes = cond (isSegment (kindFrom c)) x [];
-      entry = cond (isGate (kindFrom c)) (entryOf v r) 0;
-      description = descriptionOf v r;
-      closure = cond (isGate (kindFrom c)) (closureOf v r) [];
-    }
+objectWith v r c x = ofKind (standing v r (kindFrom c) x)
 
 object-with : (v : View) (area : List ℕ) (r : ℕ) → objectAt v area r ≡ objectWith v r (codeOf v r) (bytesOf v area r)
 unfolding objectAt objectWith

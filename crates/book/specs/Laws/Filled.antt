@@ -1,21 +1,23 @@
 -- A filled row: the new object stands in it, and every other row is as it was.
 use Prim.Native.Nat.{ℕ, _*_, _<_}
 use native.Mathlib.Omega.{arith}
-use mathlib.Core.Bool.{Bool, true, false, cond}
-use mathlib.Core.Path.{_≡_, refl, sym, _∙_, ap, ap₂}
+use mathlib.Core.Path.{_≡_, refl, _∙_, ap, ap₂}
 use mathlib.Core.List.{List, [], _++_}
 use lib.ListN.{length, getD, replicate, length-append, length-replicate}
 use lib.Seq.{getD-set-same, getD-set-other, length-take-le}
 use lib.Dec.{eqb}
 use Rattle.labels.specs.declared.Label.{Label}
 use Rattle.labels.specs.Core.{wordCount}
-use Rattle.rules.specs.Kernel.{Kind, Obj, kindCode, isThread, isGate, isSegment, isContainer, hasClearance, blank, threadOf, gateOf, segmentOf, containerOf, textSize}
+use Rattle.rules.specs.Kernel.{Obj, kindCode, isThread, isGate, isSegment, isContainer, hasClearance, threadOf, gateOf, segmentOf, containerOf, textSize, plainObject}
 use Rattle.tables.specs.Layout.{View, rowCount, idT, kindT, maskT, fixedT, quotaT, lenT, entryT, labelDefaultT, labelWordsT, clearDefaultT, clearWordsT, descriptionT, closureT}
-use Rattle.book.specs.Book.{idOf, codeOf, maskOf, fixedOf, quotaOf, lenOf, entryOf, labelOf, clearanceOf, descriptionOf, closureOf, collect, placeOf, blockAt, bytesOf, kindFrom, objectAt}
+use Rattle.book.specs.Book.{idOf, codeOf, maskOf, fixedOf, quotaOf, lenOf, entryOf, labelOf, clearanceOf, descriptionOf, closureOf, collect, placeOf, blockAt, bytesOf, kindFrom, objectAt, ofKind, standing}
 use Rattle.book.specs.Shape.{Shape}
 use Rattle.book.specs.Enact.{padded, relabelled, rowFilled}
 use Rattle.book.specs.Laws.Codes.{kind-from}
 use Rattle.book.specs.Laws.Worlds.{obj-ext, label-ext}
+use Rattle.labels.specs.Core.Same.{label-ext}
+use Rattle.rules.specs.Laws.Kinds.{kind-from}
+use Rattle.rules.specs.Laws.Worlds.{obj-ext}
 use Rattle.book.specs.Laws.Shapes.{put-shape, run-shape}
 use Rattle.book.specs.Laws.Alter.{run-here, run-elsewhere, relabelled-shape}
 use Rattle.book.specs.Laws.Handed.{padded-all}
@@ -26,58 +28,48 @@ padded-long n l = length-take-le n (l ++ replicate n 0) (omega (arith, length-ap
 
 -- ---- objects that a row can hold
 
+-- what a row holds of an object as a create makes it
+abbrev pub rowHolds : Obj → Obj
+rowHolds x =
+    plainObject (x .kind) (x .label) (record { default = (x .clearance) .default; words = padded wordCount ((x .clearance) .words) })
+    (x .quota) (x .mask) (x .entry) (x .description) (padded textSize (x .closure))
+
 -- An object as a create makes it: its row holds all of it.
 pub record Fresh (x : Obj) : Type 0 where
   pub live : kindCode (x .kind) ≡ 0 → ⊥
   pub label-long : length ((x .label) .words) ≡ wordCount
-  pub clearance-is : cond (hasClearance (x .kind)) (record { default = (x .clearance) .default; words = padded wordCount ((x .clearance) .words) }) blank ≡ x .clearance
-  pub not-fixed : x .fixed ≡ false
-  pub mask-is : cond (isContainer (x .kind)) (x .mask) 0 ≡ x .mask
-  pub empty : x .bytes ≡ []
-  pub entry-is : cond (isGate (x .kind)) (x .entry) 0 ≡ x .entry
   pub description-long : length (x .description) ≡ textSize
-  pub closure-is : cond (isGate (x .kind)) (padded textSize (x .closure)) [] ≡ x .closure
+  pub whole : ofKind (rowHolds x) ≡ x
 
 module _ (l : Label) (s : List ℕ) (long : length (l .words) ≡ wordCount) (text : length s ≡ textSize) where
   -- Each of the four kinds is.
   pub container-fresh : (m q : ℕ) → Fresh (containerOf l s m q)
-  unfolding containerOf kindCode hasClearance isThread isGate isContainer
-  container-fresh m q =
-      record { live = λ e. omega arith; label-long = long; clearance-is = refl; not-fixed = refl; mask-is = refl; empty = refl; entry-is = refl; description-long = text; closure-is = refl }
+  unfolding containerOf kindCode hasClearance isThread isGate isSegment isContainer
+  container-fresh m q = record { live = λ e. omega arith; label-long = long; description-long = text; whole = refl }
 
   pub segment-fresh : (q : ℕ) → Fresh (segmentOf l s q)
-  unfolding segmentOf kindCode hasClearance isThread isGate isContainer
-  segment-fresh q =
-      record { live = λ e. omega arith; label-long = long; clearance-is = refl; not-fixed = refl; mask-is = refl; empty = refl; entry-is = refl; description-long = text; closure-is = refl }
+  unfolding segmentOf kindCode hasClearance isThread isGate isSegment isContainer
+  segment-fresh q = record { live = λ e. omega arith; label-long = long; description-long = text; whole = refl }
 
   pub gate-fresh : (c : Label) → length (c .words) ≡ wordCount → (e : ℕ) (x : List ℕ) → length x ≡ textSize → Fresh (gateOf l c e x s)
-  unfolding gateOf kindCode hasClearance isThread isGate isContainer
+  unfolding gateOf kindCode hasClearance isThread isGate isSegment isContainer
   gate-fresh c clong e x xlong =
       record {
         live = λ e. omega arith;
         label-long = long;
-        clearance-is = ap (λ (w : List ℕ). record { default = c .default; words = w }) (padded-all wordCount (c .words) clong);
-        not-fixed = refl;
-        mask-is = refl;
-        empty = refl;
-        entry-is = refl;
         description-long = text;
-        closure-is = padded-all textSize x xlong;
+        whole =
+            ap₂ (λ (w y : List ℕ). gateOf l (record { default = c .default; words = w }) e y s) (padded-all wordCount (c .words) clong) (padded-all textSize x xlong);
       }
 
   pub thread-fresh : (c : Label) → length (c .words) ≡ wordCount → Fresh (threadOf l c s)
-  unfolding threadOf kindCode hasClearance isThread isGate isContainer
+  unfolding threadOf kindCode hasClearance isThread isGate isSegment isContainer
   thread-fresh c clong =
       record {
         live = λ e. omega arith;
         label-long = long;
-        clearance-is = ap (λ (w : List ℕ). record { default = c .default; words = w }) (padded-all wordCount (c .words) clong);
-        not-fixed = refl;
-        mask-is = refl;
-        empty = refl;
-        entry-is = refl;
         description-long = text;
-        closure-is = refl;
+        whole = ap (λ (w : List ℕ). threadOf l (record { default = c .default; words = w }) s) (padded-all wordCount (c .words) clong);
       }
 
 -- ---- another row
@@ -124,27 +116,21 @@ module _ (v : View) (r id : ℕ) (x : Obj) (s : ℕ) (ne : s ≡ r → ⊥) wher
   pub filled-object-other : (area : List ℕ) → objectAt (rowFilled r id x v) area s ≡ objectAt v area s
   unfolding rowFilled relabelled objectAt bytesOf placeOf blockAt
   filled-object-other area =
-      obj-ext (objectAt (rowFilled r id x v) area s) (objectAt v area s)
+      ap ofKind
+      (obj-ext (standing (rowFilled r id x v) s (kindFrom (codeOf (rowFilled r id x v) s)) (bytesOf (rowFilled r id x v) area s))
+      (standing v s (kindFrom (codeOf v s)) (bytesOf v area s))
       (ap kindFrom filled-code-other)
       label-other
-      (ap₂ (λ (k : ℕ) (c : Label). cond (hasClearance (kindFrom k)) c blank) filled-code-other clearance-other)
+      clearance-other
       (getD-set-other (v .quota) r s (x .quota) 0 ne)
-      (ap₂ (λ (k n : ℕ). cond (isSegment (kindFrom k)) (eqb n 1) false) filled-code-other filled-fixed-other)
-      (ap₂ (λ (k n : ℕ). cond (isContainer (kindFrom k)) n 0) filled-code-other (getD-set-other (v .mask) r s (x .mask) 0 ne))
-      (ap₂ (λ (k n : ℕ). cond (isSegment (kindFrom k)) (collect n (λ i. getD area (placeOf v s i) 0)) []) filled-code-other filled-len-other)
-      (ap₂ (λ (k n : ℕ). cond (isGate (kindFrom k)) n 0) filled-code-other (getD-set-other (v .entry) r s (x .entry) 0 ne))
+      (ap (λ (n : ℕ). eqb n 1) filled-fixed-other)
+      (getD-set-other (v .mask) r s (x .mask) 0 ne)
+      (ap (λ (n : ℕ). collect n (λ i. getD area (placeOf v s i) 0)) filled-len-other)
+      (getD-set-other (v .entry) r s (x .entry) 0 ne)
       description-other
-      (ap₂ (λ (k : ℕ) (t : List ℕ). cond (isGate (kindFrom k)) t []) filled-code-other closure-other)
+      closure-other)
 
 -- ---- the row itself
-
-no-mark : (b : Bool) → cond b false false ≡ false
-no-mark true = refl
-no-mark false = refl
-
-no-bytes : (b : Bool) → _≡_ {A = List ℕ} (cond b [] []) []
-no-bytes true = refl
-no-bytes false = refl
 
 module _ (v : View) (z : Shape v) (r id : ℕ) (x : Obj) (h : r < rowCount) where
   -- The new numbers stand in it,
@@ -212,19 +198,19 @@ module _ (v : View) (z : Shape v) (r id : ℕ) (x : Obj) (h : r < rowCount) wher
   pub filled-object : (area : List ℕ) → Fresh x → objectAt (rowFilled r id x v) area r ≡ x
   unfolding objectAt
   filled-object area f =
-      obj-ext (objectAt (rowFilled r id x v) area r) x
+      ap ofKind
+      (obj-ext (standing (rowFilled r id x v) r (kindFrom (codeOf (rowFilled r id x v) r)) (bytesOf (rowFilled r id x v) area r)) (rowHolds x)
       filled-kind
       (filled-label (f .label-long))
-      (ap₂ (λ (k : Kind) (c : Label). cond (hasClearance k) c blank) filled-kind filled-clearance ∙ f .clearance-is)
+      filled-clearance
       filled-quota
-      (ap (λ (n : ℕ). cond (isSegment (kindFrom (codeOf (rowFilled r id x v) r))) (eqb n 1) false) filled-fixed
-      ∙ no-mark (isSegment (kindFrom (codeOf (rowFilled r id x v) r))) ∙ sym (f .not-fixed))
-      (ap₂ (λ (k : Kind) (n : ℕ). cond (isContainer k) n 0) filled-kind filled-mask ∙ f .mask-is)
-      (ap (λ (b : List ℕ). cond (isSegment (kindFrom (codeOf (rowFilled r id x v) r))) b []) (filled-bytes area)
-      ∙ no-bytes (isSegment (kindFrom (codeOf (rowFilled r id x v) r))) ∙ sym (f .empty))
-      (ap₂ (λ (k : Kind) (n : ℕ). cond (isGate k) n 0) filled-kind filled-entry ∙ f .entry-is)
+      (ap (λ (n : ℕ). eqb n 1) filled-fixed)
+      filled-mask
+      (filled-bytes area)
+      filled-entry
       (filled-description (f .description-long))
-      (ap₂ (λ (k : Kind) (t : List ℕ). cond (isGate k) t []) filled-kind filled-closure ∙ f .closure-is)
+      filled-closure)
+      ∙ f .whole
 
   -- The tables keep their lengths.
   pub filled-shape : Shape (rowFilled r id x v)

@@ -14,6 +14,7 @@ use Rattle.rules.specs.Kernel.{segmentCode, containerCode, maxCode, Kind, absen
 use Rattle.rules.specs.Laws.Bools.{not-i, not-both, same-by}
 use Rattle.rules.specs.Laws.Put.{put-same, put-other, link-new, link-old, link-cases}
 use Rattle.tables.specs.Layout.{View, rowCount, linkCount, nextT, linkFromT, linkToT}
+use Rattle.rules.specs.Laws.Worlds.{world-ext}
 use Rattle.book.specs.declared.Found.the-variants.{At}
 use Rattle.book.specs.Book.{nextOf, rootOf, idOf, codeOf, fixedOf, lenOf, markOf, fromOf, toOf, ownerOf, indexOf, liveRow, blocksOf, placeOf, blockAt, bytesOf, objectAt, hasId, rowOf, worldOf}
 use Rattle.book.specs.Sound.{Live, On, Used, Owned, Sound, timesHeld}
@@ -24,7 +25,6 @@ use Rattle.book.specs.Laws.First.{first-only, first-cong, first-hit, fou
 use Rattle.book.specs.Laws.Tie.{test-live, live-test, row-is, obj-found, obj-missing, linked-at, linked-is, rows-linked}
 use Rattle.book.specs.Laws.WorldSound.{placed}
 use Rattle.book.specs.Laws.Room.{spare-row-room, spare-link-room}
-use Rattle.book.specs.Laws.Worlds.{world-ext}
 use Rattle.book.specs.Laws.Shapes.{put-shape}
 use Rattle.book.specs.Laws.Alter.{moved-row, moved-object, moved-linked, moved-root, moved-next, moved-shape, moved-placed}
 use Rattle.book.specs.Laws.Places.{free-row-low, link-low}

@@ -14,6 +14,7 @@ use Rattle.rules.specs.Kernel.{segmentCode, blockSize, rewrite, alter, edit, pu
 use Rattle.rules.specs.Laws.Bools.{bool-cases}
 use Rattle.rules.specs.Laws.Put.{put-same, put-other}
 use Rattle.tables.specs.Layout.{View, rowCount, blockCount, nextT, lenT, ownerT, indexT, onTab}
+use Rattle.rules.specs.Laws.Worlds.{world-ext}
 use Rattle.book.specs.Book.{nextOf, idOf, codeOf, lenOf, ownerOf, indexOf, blocksOf, blockAt, placeOf, bytesOf, objectAt, rowOf, worldOf}
 use Rattle.book.specs.Sound.{Live, Used, Owned, timesHeld}
 use Rattle.book.specs.Placed.{Placed}
@@ -23,7 +24,6 @@ use Rattle.book.specs.Laws.First.{found-cases, collect-at, collect-is}
 use Rattle.book.specs.Laws.Tie.{same-row, row-is, row-none, object-bytes, object-no-bytes, bytes-length, obj-found, obj-missing, obj-at}
 use Rattle.book.specs.Laws.Room.{freeBlocks}
 use Rattle.book.specs.Laws.Shapes.{on-shape, put-shape}
-use Rattle.book.specs.Laws.Worlds.{world-ext, obj-ext}
 use Rattle.book.specs.Laws.Blocks.{Held, positive, held, held-once, held-at, at-low, at-owner, at-index, place-low, place-block, place-rest}
 use Rattle.book.specs.Laws.Lengthened.{reblocked, relong, lengthened-is, lengthened-owner-long, lengthened-index-long, lengthened-held, Others, lengthened-others}
 
@@ -156,17 +156,15 @@ unfolding rowOf movedOn
 moved-row r n o i v q = refl
 
 -- the object at a row of the changed book, by its bytes
-same-object : (r n : ℕ) (o i : List ℕ) (v : View) (area after : List ℕ) (s : ℕ) → (objectAt (movedOn (relong r n o i v)) after s) .bytes ≡ (objectAt v area s) .bytes
-    → objectAt (movedOn (relong r n o i v)) after s ≡ objectAt v area s
-unfolding objectAt movedOn
-same-object r n o i v area after s e =
-    obj-ext (objectAt (movedOn (relong r n o i v)) after s) (objectAt v area s) refl refl refl refl refl refl e refl refl refl
-
 edited-object : (r n : ℕ) (o i : List ℕ) (v : View) (area after b : List ℕ) (s : ℕ) → (objectAt (movedOn (relong r n o i v)) after s) .bytes ≡ b
     → objectAt (movedOn (relong r n o i v)) after s ≡ edit (rewrite b) (objectAt v area s)
 unfolding objectAt movedOn edit
-edited-object r n o i v area after b s e =
-    obj-ext (objectAt (movedOn (relong r n o i v)) after s) (edit (rewrite b) (objectAt v area s)) refl refl refl refl refl refl e refl refl refl
+edited-object r n o i v area after b s e = ap (λ (t : List ℕ). edit (rewrite t) (objectAt v area s)) e
+
+same-object : (r n : ℕ) (o i : List ℕ) (v : View) (area after : List ℕ) (s : ℕ) → (objectAt (movedOn (relong r n o i v)) after s) .bytes ≡ (objectAt v area s) .bytes
+    → objectAt (movedOn (relong r n o i v)) after s ≡ objectAt v area s
+unfolding edit
+same-object r n o i v area after s e = edited-object r n o i v area after ((objectAt v area s) .bytes) s e
 
 module _ (r n : ℕ) (o i : List ℕ) (v : View) (area b : List ℕ) (p : Placed v) (x : Rewritten v (relong r n o i v) r n) (e : length b ≡ n) where
   same-code : (s : ℕ) → codeOf (movedOn (relong r n o i v)) s ≡ codeOf v s

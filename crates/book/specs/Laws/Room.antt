@@ -68,7 +68,6 @@ module _ (v : View) (s : Sound v) where
         con-live = λ c t. ap not (ne-eqb (codeOf v c) 0 (λ z. let e = eqb-true (codeOf v c) containerCode t in omega arith));
         root-in = s .root .1 .low;
         root-con = eq-eqb (codeOf v (s .root .0)) containerCode (s .root .1 .is-container);
-        root-quota = s .root .1 .quota-all;
         root-none = s .root .1 .no-link;
         one = one-link;
         some = some-link;
@@ -86,13 +85,13 @@ module _ (v : View) (s : Sound v) where
   -- Where a container has spare, a row is free,
   pub row-room : (c : ℕ) → c < rowCount → codeOf v c ≡ containerCode → 1 ≤ quotaOf v c - (1 + chargedTo v c) → (r : ℕ) × (first rowCount (λ r. eqb (codeOf v r) 0) ≡ At r)
   row-room c l e h =
-      let (r, a, b) = row-free (rowsOf v) rowCount linkCount (s .root .0) tree-sound refl c l (eq-eqb (codeOf v c) containerCode e) (spare-there c h) in
+      let (r, a, b) = row-free (rowsOf v) rowCount linkCount (s .root .0) tree-sound (omega (arith, s .root .1 .quota-all)) c l (eq-eqb (codeOf v c) containerCode e) (spare-there c h) in
       first-some rowCount (λ r. eqb (codeOf v r) 0) r a (not-false (eqb (codeOf v r) 0) b)
 
   -- and a link.
   pub link-room : (c : ℕ) → c < rowCount → codeOf v c ≡ containerCode → 1 ≤ quotaOf v c - (1 + chargedTo v c) → (l : ℕ) × (first linkCount (λ l. eqb (markOf v l) 0) ≡ At l)
   link-room c l e h =
-      let (k, a, b) = link-free (rowsOf v) rowCount linkCount (s .root .0) tree-sound (omega arith) c l (eq-eqb (codeOf v c) containerCode e) (spare-there c h) in
+      let (k, a, b) = link-free (rowsOf v) rowCount linkCount (s .root .0) tree-sound (omega (arith, s .root .1 .quota-all)) c l (eq-eqb (codeOf v c) containerCode e) (spare-there c h) in
       first-some linkCount (λ k. eqb (markOf v k) 0) k a (not-false (eqb (markOf v k) 0) b)
 
   -- The same by the spare of the world.
@@ -224,6 +223,7 @@ module _ (v : View) (s : Sound v) where
         arith,
         blocks-held (rowsOf v) rowCount linkCount (s .root .0) (tree-sound v s) blockCount (λ b. not (eqb (ownerOf v b) 0)) (λ b. ownerOf v b - 1) blocks r l
             (live-test v r a) (ne-eqb (codeOf v r) containerCode (λ z. omega arith)),
+        s .root .1 .quota-all,
         used-and-free v,
         held,
       )

@@ -16,17 +16,17 @@ use Rattle.rules.specs.Laws.Bools.{and-r, not-i, bool-cases}
 use Rattle.rules.specs.Laws.Put.{put-same, put-other}
 use Rattle.rules.specs.Laws.StartSound.{start-sound}
 use Rattle.tables.specs.Layout.{View, rowCount, linkCount, blockCount, nextT, rootT, zeros, empty, putT}
+use Rattle.rules.specs.Laws.Worlds.{world-ext}
 use Rattle.book.specs.Book.{nextOf, rootOf, idOf, codeOf, markOf, ownerOf, worldOf}
 use Rattle.book.specs.Sound.{Live, On, Sound}
 use Rattle.book.specs.Placed.{Placed}
 use Rattle.book.specs.Shape.{Shape}
 use Rattle.book.specs.Enact.{relabelled, rowFilled, linkFilled, startView, startArea}
-use Rattle.book.specs.Make.{objectOf, Handed, rootRow, threadRow, rootMade, threadMade}
+use Rattle.book.specs.Make.{Handed, rootRow, threadRow, rootMade, threadMade}
 use Rattle.book.specs.Laws.Tie.{obj-none, linked-is, world-next, world-root}
 use Rattle.book.specs.Laws.SoundBy.{sound-by}
 use Rattle.book.specs.Laws.Shapes.{empty-shape, put-shape}
-use Rattle.book.specs.Laws.Worlds.{world-ext}
-use Rattle.book.specs.Laws.Handed.{container-handed, thread-handed}
+use Rattle.book.specs.Laws.Handed.{container-handed, thread-handed, row-is-container, row-is-thread}
 use Rattle.book.specs.Laws.Filled.{Fresh, container-fresh, thread-fresh, filled-id-other, filled-code-other, filled-id, filled-shape}
 use Rattle.book.specs.Laws.Make.{filled-live, live-still, filled-obj, filled-linked, filled-placed, linked-obj, linked-more, linked-placed, kind-most}
 
@@ -58,12 +58,25 @@ module _ (f : ℕ) where
       (put (f + 1) (threadOf (plain level1) (plain level2) (replicate textSize 0)) (λ o. nothing)) (f + 1) (λ e. omega arith)
       ∙ put-same (f + 1) (threadOf (plain level1) (plain level2) (replicate textSize 0)) (λ o. nothing) (f + 1) refl
 
-  -- The root and then its thread are Start's book.
-  pub start-made : threadMade (f + 1) (rootMade f) ≡ startView f
-  unfolding startView threadMade rootMade objectOf
-  start-made =
+  -- The root and then its thread are Start's book,
+  start-laid :
+      linkFilled 0 0 1
+      (rowFilled 1 (f + 1) (threadOf (plain level1) (plain level2) (replicate textSize 0))
+      (rowFilled 0 f (containerOf (plain level1) (replicate textSize 0) 0 rootQuota) (putT rootT 0 f (putT nextT 0 (f + 2) empty))))
+      ≡ startView f
+  unfolding startView
+  start-laid =
       ap₂ (λ (t r : Obj). linkFilled 0 0 1 (rowFilled 1 (f + 1) t (rowFilled 0 f r (putT rootT 0 f (putT nextT 0 (f + 2) empty)))))
       (sym first-object) (sym root-object)
+
+  -- and so they are as handed over.
+  pub start-made : threadMade (f + 1) (rootMade f) ≡ startView f
+  unfolding threadMade rootMade
+  start-made =
+      ap₂ (λ (t r : Obj). linkFilled 0 0 1 (rowFilled 1 (f + 1) t (rowFilled 0 f r (putT rootT 0 f (putT nextT 0 (f + 2) empty)))))
+      (row-is-thread (plain level1) (plain level2) (replicate textSize 0) (replicate textSize 0))
+      (row-is-container (plain level1) 0 rootQuota (replicate textSize 0) (replicate textSize 0))
+      ∙ start-laid
 
   -- A number at which Start may begin leaves room for its two.
   pub startable-low : startable f ≡ true → f < lastNumber
@@ -273,8 +286,8 @@ module _ (f : ℕ) where
       (λ m a e q. a .used (peopled-mark m))
 
   joined-is : joined ≡ startView f
-  unfolding joined peopled rooted bare root-new thread-new threadMade rootMade objectOf
-  joined-is = start-made f
+  unfolding joined peopled rooted bare root-new thread-new
+  joined-is = start-laid f
 
   -- Start's book spells the rules' start,
   pub start-world : worldOf (startView f) startArea ≡ start f

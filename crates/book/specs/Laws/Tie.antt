@@ -10,7 +10,7 @@ use mathlib.Core.List.{List, []}
 use lib.ListN.{length}
 use lib.Dec.{eqb, ltb}
 use borrow.Author.Tests.{eqb-true, eqb-false, eq-eqb, ne-eqb, not-true, ltb-true, ltb-false, le-leb}
-use Rattle.quotas.specs.Any.{no-both, any, any-found, any-of, both, both-of, both-parts, either}
+use Rattle.quotas.specs.Any.{no-both, any, any-found, any-of, both, both-of, both-parts, any-cong}
 use Rattle.quotas.specs.Sum.{Σ, when, sum-cong, sum-swap, sum-only, sum-none, sum-term, sum-pos, when-true, when-false, when-cong, when-none, when-le, when-pos}
 use Rattle.rules.specs.Kernel.{threadCode, gateCode, segmentCode, containerCode, maxCode, isLive, isThread, isGate, isSegment, isContainer, hasClearance, Obj, nothing, charged, useOf, spareOf, units}
 use Rattle.rules.specs.Laws.Bools.{bool-cases, not-i, not-both, same-by}
@@ -279,11 +279,6 @@ module _ (v : View) (area : List ℕ) where
       (l, on, same-row v p (fromOf v l) c (p .from-live l on) a e, same-row v p (toOf v l) r (p .to-live l on) b f)
 
 -- ---- sums over links are sums over ids
-
-any-cong : (n : ℕ) (f g : ℕ → Bool) → ((i : ℕ) → i < n → f i ≡ g i) → any n f ≡ any n g
-unfolding any
-any-cong zero f g h = refl
-any-cong (suc n) f g h = ap₂ either (h n (omega arith)) (any-cong n f g (λ i l. h i (omega arith)))
 
 -- a test that at most one place passes
 any-once : (n : ℕ) (t : ℕ → Bool) (x : ℕ) → ((i j : ℕ) → i < n → j < n → t i ≡ true → t j ≡ true → i ≡ j) → when (any n t) x ≡ Σ n (λ k. when (t k) x)

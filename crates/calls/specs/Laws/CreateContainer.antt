@@ -22,7 +22,7 @@ use Rattle.book.specs.Book.{nextOf, labelOf, clearanceOf, maskOf, worldOf}
 use Rattle.book.specs.Find.{containerRow}
 use Rattle.book.specs.Make.{objectOf, Handed}
 use Rattle.book.specs.Laws.Find.{kind-row}
-use Rattle.book.specs.Laws.Handed.{container-handed}
+use Rattle.book.specs.Laws.Handed.{container-handed, row-is-container}
 use Rattle.calls.specs.declared.Refusal.the-variants.{BadArgument, NoEntry}
 use Rattle.calls.specs.declared.Judged.{Judged}
 use Rattle.calls.specs.declared.Judged.the-variants.{No}
@@ -125,7 +125,7 @@ module _ (n : ℕ) (l s : List ℕ) (d m q : ℕ) (good : goodArguments n (creat
         (good-text-long s (and-l (goodText s) (leb m maxMask && leb q maxQuota) rest-good)) (bitOr m (maskOf (view b) i)) (orDefault q containerDefault))
 
     pub container-object : objectOf row s (replicate textSize 0) ≡ newContainer (worldOf (view b) area) d l s m q
-    unfolding objectOf
     container-object =
         ap (λ (z : NewRow). objectOf z s (replicate textSize 0)) row-is
+        ∙ row-is-container (core.labelOf l) (bitOr m (maskOf (view b) i)) (orDefault q containerDefault) s (replicate textSize 0)
         ∙ ap (λ (z : ℕ). containerOf (core.labelOf l) s (bitOr m z) (orDefault q containerDefault)) (sym (mask-at b area d i at))

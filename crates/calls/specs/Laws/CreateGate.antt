@@ -15,7 +15,7 @@ use Rattle.book.specs.declared.Found.the-variants.{At, Nothing}
 use Rattle.book.specs.declared.make.NewRow.{NewRow}
 use Rattle.book.specs.Book.{nextOf, labelOf, clearanceOf, worldOf}
 use Rattle.book.specs.Make.{objectOf, Handed}
-use Rattle.book.specs.Laws.Handed.{gate-handed}
+use Rattle.book.specs.Laws.Handed.{gate-handed, row-is-gate}
 use Rattle.calls.specs.declared.Refusal.the-variants.{BadArgument, NoEntry}
 use Rattle.calls.specs.declared.Judged.{Judged}
 use Rattle.calls.specs.declared.Judged.the-variants.{No}
@@ -98,5 +98,4 @@ module _ (n : ℕ) (l k x s : List ℕ) (d i : ℕ) (good : goodArguments n (cre
         (core.labelOf k) (good-default n false k clearance-good) (labelOf-length k) i x (good-text-long x (and-l (goodText x) (goodText s) texts-good)))
 
     pub gate-object : objectOf row s x ≡ newGate l k i x s
-    unfolding objectOf
-    gate-object = ap (λ (z : NewRow). objectOf z s x) row-is
+    gate-object = ap (λ (z : NewRow). objectOf z s x) row-is ∙ row-is-gate (core.labelOf l) (core.labelOf k) i s x

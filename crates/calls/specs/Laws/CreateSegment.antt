@@ -18,7 +18,7 @@ use Rattle.book.specs.declared.Found.the-variants.{At, Nothing}
 use Rattle.book.specs.declared.make.NewRow.{NewRow}
 use Rattle.book.specs.Book.{nextOf, labelOf, clearanceOf, worldOf}
 use Rattle.book.specs.Make.{objectOf, Handed}
-use Rattle.book.specs.Laws.Handed.{segment-handed}
+use Rattle.book.specs.Laws.Handed.{segment-handed, row-is-segment}
 use Rattle.calls.specs.declared.Refusal.the-variants.{BadArgument, NoEntry}
 use Rattle.calls.specs.declared.Judged.{Judged}
 use Rattle.calls.specs.declared.Judged.the-variants.{No}
@@ -96,5 +96,4 @@ module _ (n : ℕ) (l s : List ℕ) (d q : ℕ) (good : goodArguments n (createS
         (segment-handed (core.labelOf l) s (good-default n false l label-good) (labelOf-length l) (good-text-long s (and-l (goodText s) (leb q maxQuota) rest-good)) (orDefault q segmentDefault))
 
     pub segment-object : objectOf row s (replicate textSize 0) ≡ newSegment l s q
-    unfolding objectOf
-    segment-object = ap (λ (z : NewRow). objectOf z s (replicate textSize 0)) row-is
+    segment-object = ap (λ (z : NewRow). objectOf z s (replicate textSize 0)) row-is ∙ row-is-segment (core.labelOf l) (orDefault q segmentDefault) s (replicate textSize 0)

@@ -15,7 +15,7 @@ use Rattle.book.specs.declared.Found.the-variants.{At, Nothing}
 use Rattle.book.specs.declared.make.NewRow.{NewRow}
 use Rattle.book.specs.Book.{nextOf, labelOf, clearanceOf, worldOf}
 use Rattle.book.specs.Make.{objectOf, Handed}
-use Rattle.book.specs.Laws.Handed.{thread-handed}
+use Rattle.book.specs.Laws.Handed.{thread-handed, row-is-thread}
 use Rattle.calls.specs.declared.Refusal.the-variants.{BadArgument, NoEntry}
 use Rattle.calls.specs.declared.Judged.{Judged}
 use Rattle.calls.specs.declared.Judged.the-variants.{No}
@@ -94,5 +94,4 @@ module _ (n : ℕ) (l k s : List ℕ) (d : ℕ) (good : goodArguments n (createT
         (core.labelOf k) (good-default n false k clearance-good) (labelOf-length k))
 
     pub thread-object : objectOf row s (replicate textSize 0) ≡ newThread l k s
-    unfolding objectOf
-    thread-object = ap (λ (z : NewRow). objectOf z s (replicate textSize 0)) row-is
+    thread-object = ap (λ (z : NewRow). objectOf z s (replicate textSize 0)) row-is ∙ row-is-thread (core.labelOf l) (core.labelOf k) s (replicate textSize 0)

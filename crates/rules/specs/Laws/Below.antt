@@ -7,12 +7,11 @@ use mathlib.Core.Path.{_≡_, refl, sym, _∙_, ap, subst}
 use lib.Dec.{eqb}
 use borrow.Author.Tests.{eqb-true, eq-eqb, not-true}
 use Rattle.quotas.specs.Any.{any, any-found, any-of}
-use Rattle.quotas.specs.Sum.{when, when-true, when-false, when-cong}
-use Rattle.rules.specs.Kernel.{isLive, isSegment, isContainer, nothing, World, charged, cut, under, below, stays, kept, apply, rootQuota}
+use Rattle.rules.specs.Kernel.{isLive, isSegment, isContainer, World, under, below, stays, kept, rootQuota}
 use Rattle.rules.specs.Sound.{Sound}
 use Rattle.rules.specs.Laws.Bools.{and-l, and-r, or-cases, or-i-l, or-i-r, then-l, then-r, then-i, not-i, not-both, bool-cases}
 use Rattle.rules.specs.Laws.Kinds.{container-live, container-no-segment}
-use Rattle.rules.specs.Laws.Usage.{charge, charged-same, charged-change, next-to, held-below, holder-below}
+use Rattle.rules.specs.Laws.Usage.{holder-below}
 use Rattle.rules.specs.Laws.Falls.{falls, quota-most}
 
 -- ---- what is below
@@ -121,9 +120,6 @@ module _ (w : World) (d o : ℕ) where
   stays-same e p n b =
       bool-cases (w .linked e p) (λ l. stays-i e p l n b ∙ sym l) (λ l. not-i (stays w d o e p) (λ h. not-both (w .linked e p) (stays-linked e p h) l) ∙ sym l)
 
-  pub cut-goes : stays w d o d o ≡ false
-  cut-goes = not-i (stays w d o d o) (λ h. stays-not-cut d o h refl refl)
-
   pub root-kept : kept w d o (w .root) ≡ true
   unfolding kept
   root-kept = or-i-l (eqb (w .root) (w .root)) (any (w .next) (λ e. stays w d o e (w .root))) (eq-eqb (w .root) (w .root) refl)
@@ -143,12 +139,6 @@ module _ (w : World) (s : Sound w) (d o : ℕ) where
       or-i-r (eqb p (w .root)) (any (w .next) (λ f. stays w d o f p))
       (any-of (w .next) (λ f. stays w d o f p) e (holder-below w s e p (stays-linked w d o e p h)) h)
 
-  pub kept-live : (p : ℕ) → kept w d o p ≡ true → isLive ((w .obj p) .kind) ≡ true
-  kept-live p k =
-      kept-cases w d o p k
-      (λ e. container-live ((w .obj p) .kind) (subst (λ (i : ℕ). isContainer ((w .obj i) .kind) ≡ true) (sym e) (s .tree .root-container)))
-      (λ e h. s .tree .held e p (stays-linked w d o e p h))
-
   -- A container that is not below o is kept.
   pub container-kept : (e : ℕ) → isContainer ((w .obj e) .kind) ≡ true → below w o e ≡ false → kept w d o e ≡ true
   container-kept e k b = elim (ℕ-discrete e (w .root)) [
@@ -158,52 +148,3 @@ module _ (w : World) (s : Sound w) (d o : ℕ) where
         (λ x y. not-both (below w o e) (subst (λ (i : ℕ). below w o i ≡ true) (sym y) (below-self w o)) b)
         (not-i (below w o f) (λ h. not-both (below w o e) (below-down w s o f e l h) b))))
   ]
-
-  module _ (there : w .linked d o ≡ true) where
-    -- A container that is kept is not below o.
-    pub kept-not-below : (e : ℕ) → isContainer ((w .obj e) .kind) ≡ true → kept w d o e ≡ true → below w o e ≡ false
-    kept-not-below e k h =
-        kept-cases w d o e h (λ q. subst (λ (i : ℕ). below w o i ≡ false) (sym q) (root-not-below w s d o there))
-        (λ f t. not-i (below w o e) (λ b.
-        let l = stays-linked w d o f e t in
-        let free = container-free w s e k in
-        not-both (below w o f)
-        (below-up w s o f e l free
-        (λ q. stays-not-cut w d o f e t (s .one-link f d e l (subst (λ (i : ℕ). w .linked d i ≡ true) (sym q) there) free) q) b)
-        (stays-not-below w d o f e t)))
-
-    -- what stays is charged as it was
-    stays-charge : (e p : ℕ) → stays w d o e p ≡ w .linked e p → charge (apply (cut d o) w) e p ≡ charge w e p
-    unfolding apply
-    stays-charge e p h =
-        when-cong (stays w d o e p) ((cond (kept w d o p) (w .obj p) nothing) .quota) ((w .obj p) .quota) (λ t. rw (stays-kept e p t))
-        ∙ ap (λ (b : Bool). when b ((w .obj p) .quota)) h
-
-    next-charge : (e : ℕ) → charge (apply (cut d o) w) e (w .next) ≡ 0
-    unfolding apply
-    next-charge e =
-        when-false (stays w d o e (w .next)) ((cond (kept w d o (w .next)) (w .obj (w .next)) nothing) .quota)
-        (not-i (stays w d o e (w .next)) (λ h. not-both (w .linked e (w .next)) (stays-linked w d o e (w .next) h) (next-to w s e)))
-
-    -- The container that o is cut from is charged with o no more, and with the rest as before.
-    pub cut-charged : charged (apply (cut d o) w) d + (w .obj o) .quota ≡ charged w d
-    unfolding apply
-    cut-charged =
-        omega (
-          arith,
-          charged-change w (apply (cut d o) w) refl d o (held-below w s d o there)
-              (λ p l n. stays-charge d p (stays-same w d o d p (λ x y. n y) (holder-not-below w s d o there))),
-          next-charge d,
-          when-true (w .linked d o) ((w .obj o) .quota) there,
-          when-false (stays w d o d o) ((cond (kept w d o o) (w .obj o) nothing) .quota) (cut-goes w d o),
-        )
-
-    -- Every other container that is kept is charged as before.
-    pub cut-charged-others : (e : ℕ) → isContainer ((w .obj e) .kind) ≡ true → kept w d o e ≡ true → (e ≡ d → ⊥) → charged (apply (cut d o) w) e ≡ charged w e
-    unfolding apply
-    cut-charged-others e k h n =
-        omega (
-          arith,
-          charged-same w (apply (cut d o) w) refl e (λ p l. stays-charge e p (stays-same w d o e p (λ x y. n x) (kept-not-below e k h))),
-          next-charge e,
-        )

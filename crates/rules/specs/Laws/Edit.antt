@@ -2,6 +2,7 @@
 use Prim.Native.Nat.{ℕ}
 use mathlib.Core.Bool.{false, false≢true}
 use mathlib.Core.Path.{_≡_, refl, sym, _∙_, ap}
+use mathlib.Core.List.{List}
 use Rattle.rules.specs.Kernel.{Obj, World, Edit, relabel, fix, requota, rewrite, edit, alter, apply}
 use Rattle.rules.specs.Laws.Put.{put-at}
 
@@ -18,6 +19,19 @@ edit-mask (relabel l c) x = refl
 edit-mask fix x = refl
 edit-mask (requota q) x = refl
 edit-mask (rewrite b) x = refl
+
+-- but for `relabel`, an edit leaves the label
+pub fix-label : (x : Obj) → (edit fix x) .label ≡ x .label
+unfolding edit
+fix-label x = refl
+
+pub requota-label : (q : ℕ) (x : Obj) → (edit (requota q) x) .label ≡ x .label
+unfolding edit
+requota-label q x = refl
+
+pub rewrite-label : (b : List ℕ) (x : Obj) → (edit (rewrite b) x) .label ≡ x .label
+unfolding edit
+rewrite-label b x = refl
 
 -- no edit looses a fixed quota
 pub edit-fixed : (e : Edit) (x : Obj) → (edit e x) .fixed ≡ false → x .fixed ≡ false

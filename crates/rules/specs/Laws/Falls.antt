@@ -2,12 +2,11 @@
 use Prim.Native.Nat.{ℕ, zero, suc, _+_, _<_, _≤_}
 use native.Mathlib.Decide.{ℕ-discrete}
 use native.Mathlib.Omega.{arith}
-use mathlib.Core.Bool.{true, false}
+use mathlib.Core.Bool.{true}
 use mathlib.Core.Path.{_≡_, ap}
 use Rattle.quotas.specs.Sum.{Σ, sum-term}
 use Rattle.rules.specs.Kernel.{isLive, World, rootQuota}
 use Rattle.rules.specs.Sound.{Sound}
-use Rattle.rules.specs.Laws.Bools.{not-i}
 use Rattle.rules.specs.Laws.Kinds.{container-live}
 use Rattle.rules.specs.Laws.Usage.{use-container, charge-le, holder-below}
 
@@ -17,10 +16,6 @@ module _ (w : World) (s : Sound w) where
   falls d o l =
       let k = s .tree .holder d o l in
       omega (arith, s .uses d (container-live ((w .obj d) .kind) k), use-container w d k, charge-le w s d o l)
-
-  -- nothing is linked in itself
-  pub not-in-itself : (o : ℕ) → w .linked o o ≡ false
-  not-in-itself o = not-i (w .linked o o) (λ l. let f = falls o o l in omega arith)
 
   -- up the links the quota rises, and none is above the sum of all: so the way ends at the root
   climb : (fuel o : ℕ) → isLive ((w .obj o) .kind) ≡ true → Σ (w .next) (λ p. (w .obj p) .quota) ≤ (w .obj o) .quota + fuel → (w .obj o) .quota ≤ rootQuota
@@ -38,7 +33,3 @@ module _ (w : World) (s : Sound w) where
   -- No object has more than the root's quota.
   pub quota-most : (o : ℕ) → isLive ((w .obj o) .kind) ≡ true → (w .obj o) .quota ≤ rootQuota
   quota-most o h = climb (Σ (w .next) (λ p. (w .obj p) .quota)) o h (omega arith)
-
-  -- Only the root has it.
-  pub quota-less : (d o : ℕ) → w .linked d o ≡ true → (w .obj o) .quota < rootQuota
-  quota-less d o l = omega (arith, falls d o l, quota-most d (container-live ((w .obj d) .kind) (s .tree .holder d o l)))

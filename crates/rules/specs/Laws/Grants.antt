@@ -10,7 +10,7 @@ use lib.IntN.{pos, negsuc}
 use lib.ListN.{length}
 use borrow.Author.Tests.{not-true, leb-true, eqb-true, eqb-false}
 use Rattle.labels.specs.declared.Label.{Label}
-use Rattle.labels.specs.Core.{wellFormed, flows, hasRoom, withPair, labelOf, labelSize, wordCount, mayRead, star, level3}
+use Rattle.labels.specs.Core.{wellFormed, flows, hasRoom, withPair, labelOf, labelSize, wordCount, star, level3}
 use Rattle.labels.specs.Core.Bytes.{labelOf-length}
 use Rattle.labels.specs.Core.Fresh.{formed-wider, pair-length}
 use Rattle.rules.specs.Kernel.{kindCode, isLive, isThread, isContainer, hasClearance, Obj, World, relabel, fix, Change, keep, alter, create, cut, link, Call, createCategory, setLabel, setClearance, createContainer, createSegment, createGate, createThread, unreference, linkSegment, fixQuota, moveQuota, read, write, resize, enterGate, look, Condition, holds, allHold, flow, writing, Verdict, grant, must, mustHold, opens, entry, fits, orDefault, make, move, access, containerOf, segmentOf, gateOf, threadOf, clearedAt, judge, useOf, spareOf, units, goodLabel, goodText, goodArguments, maxMask, maxLength, textSize, blockSize, maxBlock, segmentDefault, containerDefault}
@@ -19,6 +19,7 @@ use Rattle.rules.specs.Fair.{Whole, Fair}
 use Rattle.rules.specs.Laws.Bools.{and-l, and-r}
 use Rattle.rules.specs.Laws.Kinds.{thread-live, segment-live, container-live, thread-cleared}
 use Rattle.rules.specs.Laws.Must.{must-test, must-rest, hold-test, hold-rest, same-change, all-head, all-tail, all-right}
+use Rattle.rules.specs.Laws.Entries.{opens-container, entry-link}
 use Rattle.rules.specs.Laws.Usage.{use-segment, use-some}
 use Rattle.rules.specs.Laws.Masks.{or-twice, or-mask}
 use Rattle.rules.specs.Laws.Category.{starred-formed, cleared-formed, cleared-length, category-flows}
@@ -68,15 +69,6 @@ module _ (w : World) (s : Sound w) (c : ℕ) (k : isThread ((w .obj c) .kind) �
   own-formed : wellFormed (w .next) true ((w .obj c) .label) ≡ true
   own-formed = rw cleared at (s .labels c live .label)
 
-  -- the containers and objects named
-  opens-container : (d : ℕ) → opens w (w .obj c) d ≡ true → isContainer ((w .obj d) .kind) ≡ true
-  unfolding opens
-  opens-container d p = and-l (isContainer ((w .obj d) .kind)) (mayRead ((w .obj c) .label) ((w .obj d) .label)) p
-
-  entry-link : (d o : ℕ) → entry w (w .obj c) d o ≡ true → w .linked d o ≡ true
-  unfolding entry
-  entry-link d o p = and-r (opens w (w .obj c) d) (w .linked d o) p
-
   -- what fits leaves use within quota
   fits-room : (o n : ℕ) → isLive ((w .obj o) .kind) ≡ true → fits w o n ≡ true → useOf w o + n ≤ (w .obj o) .quota
   unfolding fits spareOf
@@ -92,7 +84,7 @@ module _ (w : World) (s : Sound w) (c : ℕ) (k : isThread ((w .obj c) .kind) �
   unfolding make
   make-fair d x more i f e z m =
       pass _ 5 _ (λ p. all _ _ (λ q. pass _ 8 _ (λ r. pass _ 13 _ (λ u.
-      let o = opens-container d p in
+      let o = opens-container w (w .obj c) d p in
       done _ _ (create d x) (record {
         is-container = o;
         room = fits-room d (x .quota) (container-live ((w .obj d) .kind) o) u;
@@ -215,7 +207,7 @@ module _ (w : World) (s : Sound w) (c : ℕ) (k : isThread ((w .obj c) .kind) �
   unfolding judge move
   move-in-fair d o n =
       pass _ 5 _ (λ p. pass _ 6 _ (λ r. all _ _ (λ q. pass _ 9 _ (λ u. pass _ 13 _ (λ z.
-      let l = entry-link d o p in
+      let l = entry-link w (w .obj c) d o p in
       let i = s .tree .held d o l in
       let room = fits-room d n (container-live ((w .obj d) .kind) (s .tree .holder d o l)) z in
       let some = s .ranges o i .quota-some in
@@ -234,7 +226,7 @@ module _ (w : World) (s : Sound w) (c : ℕ) (k : isThread ((w .obj c) .kind) �
   unfolding judge move
   move-out-fair d o n =
       pass _ 5 _ (λ p. pass _ 6 _ (λ r. all _ _ (λ q. pass _ 9 _ (λ u. pass _ 13 _ (λ z.
-      let l = entry-link d o p in
+      let l = entry-link w (w .obj c) d o p in
       let room = s .uses d (container-live ((w .obj d) .kind) (s .tree .holder d o l)) in
       let own = fits-room o (suc n) (s .tree .held d o l) z in
       let some = use-some w o in
@@ -252,7 +244,7 @@ module _ (w : World) (s : Sound w) (c : ℕ) (k : isThread ((w .obj c) .kind) �
   unfolding judge
   link-fair d1 o d =
       pass _ 5 _ (λ p. pass _ 6 _ (λ r. all _ _ (λ q. pass _ 9 _ (λ f. pass _ 10 _ (λ n. pass _ 13 _ (λ z.
-      let i = opens-container d (and-r (entry w (w .obj c) d1 o) (opens w (w .obj c) d) p) in
+      let i = opens-container w (w .obj c) d (and-r (entry w (w .obj c) d1 o) (opens w (w .obj c) d) p) in
       done _ _ (link d o) (record {
         is-container = i;
         is-segment = r;
@@ -289,7 +281,7 @@ module _ (w : World) (s : Sound w) (c : ℕ) (k : isThread ((w .obj c) .kind) �
   judge-fair (createSegment d l x q) g = segment-fair d l x q g
   judge-fair (createGate d l y e z x) g = gate-fair d l y e z x g
   judge-fair (createThread d l y x) g = thread-fair d l y x g
-  judge-fair (unreference d o) g = unfold judge in (pass _ 5 _ (λ p. all _ _ (λ q. done _ _ (cut d o) (entry-link d o p))))
+  judge-fair (unreference d o) g = unfold judge in (pass _ 5 _ (λ p. all _ _ (λ q. done _ _ (cut d o) (entry-link w (w .obj c) d o p))))
   judge-fair (linkSegment d1 o d) g = link-fair d1 o d
   judge-fair (fixQuota d o) g = unfold judge in (pass _ 5 _ (λ p. pass _ 6 _ (λ r. all _ _ (λ q. done _ _ (alter o fix) r))))
   judge-fair (moveQuota d o (pos n)) g = move-in-fair d o n

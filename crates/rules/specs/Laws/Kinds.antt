@@ -1,40 +1,39 @@
 -- The tests of kinds: each is of one kind, so they exclude each other.
-use mathlib.Core.Bool.{true, false, false≢true}
-use mathlib.Core.Path.{_≡_, refl, sym, subst}
-use Rattle.rules.specs.Kernel.{Kind, absent, thread, gate, segment, container, kindCode, isLive, isThread, isGate, isSegment, isContainer, hasClearance, nothing}
+use Prim.Native.Nat.{ℕ}
+use mathlib.Core.Bool.{true, false}
+use mathlib.Core.Path.{_≡_, refl, sym, _∙_, ap, subst}
+use lib.Dec.{eqb}
+use borrow.Author.Tests.{eqb-true}
+use Rattle.rules.specs.Kernel.{threadCode, gateCode, segmentCode, containerCode, Kind, absent, thread, gate, segment, container, kindCode, kindFrom, isLive, isThread, isGate, isSegment, isContainer, hasClearance, nothing}
 use Rattle.rules.specs.Laws.Bools.{or-cases}
 
+-- A kind is that of its code, and so of each code there is one kind.
+pub kind-from : (k : Kind) → kindFrom (kindCode k) ≡ k
+unfolding kindFrom kindCode
+kind-from absent = refl
+kind-from thread = refl
+kind-from gate = refl
+kind-from segment = refl
+kind-from container = refl
+
+kind-by : (k : Kind) (n : ℕ) → eqb (kindCode k) n ≡ true → k ≡ kindFrom n
+kind-by k n h = sym (kind-from k) ∙ ap kindFrom (eqb-true (kindCode k) n h)
+
 pub is-thread : (k : Kind) → isThread k ≡ true → k ≡ thread
-unfolding isThread kindCode
-is-thread absent h = absurd (false≢true h)
-is-thread thread h = refl
-is-thread gate h = absurd (false≢true h)
-is-thread segment h = absurd (false≢true h)
-is-thread container h = absurd (false≢true h)
+unfolding isThread kindFrom
+is-thread k h = kind-by k threadCode h
 
 pub is-gate : (k : Kind) → isGate k ≡ true → k ≡ gate
-unfolding isGate kindCode
-is-gate absent h = absurd (false≢true h)
-is-gate thread h = absurd (false≢true h)
-is-gate gate h = refl
-is-gate segment h = absurd (false≢true h)
-is-gate container h = absurd (false≢true h)
+unfolding isGate kindFrom
+is-gate k h = kind-by k gateCode h
 
 pub is-segment : (k : Kind) → isSegment k ≡ true → k ≡ segment
-unfolding isSegment kindCode
-is-segment absent h = absurd (false≢true h)
-is-segment thread h = absurd (false≢true h)
-is-segment gate h = absurd (false≢true h)
-is-segment segment h = refl
-is-segment container h = absurd (false≢true h)
+unfolding isSegment kindFrom
+is-segment k h = kind-by k segmentCode h
 
 pub is-container : (k : Kind) → isContainer k ≡ true → k ≡ container
-unfolding isContainer kindCode
-is-container absent h = absurd (false≢true h)
-is-container thread h = absurd (false≢true h)
-is-container gate h = absurd (false≢true h)
-is-container segment h = absurd (false≢true h)
-is-container container h = refl
+unfolding isContainer kindFrom
+is-container k h = kind-by k containerCode h
 
 module _ (k : Kind) where
   -- what holds of a kind holds of what is of that kind
@@ -78,14 +77,6 @@ module _ (k : Kind) where
   unfolding hasClearance isThread isGate kindCode
   gate-cleared = at-gate (λ j. hasClearance j ≡ true) refl
 
-  pub segment-uncleared : isSegment k ≡ true → hasClearance k ≡ false
-  unfolding hasClearance isThread isGate kindCode
-  segment-uncleared = at-segment (λ j. hasClearance j ≡ false) refl
-
-  pub container-uncleared : isContainer k ≡ true → hasClearance k ≡ false
-  unfolding hasClearance isThread isGate kindCode
-  container-uncleared = at-container (λ j. hasClearance j ≡ false) refl
-
   pub segment-no-container : isSegment k ≡ true → isContainer k ≡ false
   unfolding isContainer kindCode
   segment-no-container = at-segment (λ j. isContainer j ≡ false) refl
@@ -109,6 +100,14 @@ module _ (k : Kind) where
   pub thread-no-container : isThread k ≡ true → isContainer k ≡ false
   unfolding isContainer kindCode
   thread-no-container = at-thread (λ j. isContainer j ≡ false) refl
+
+  pub segment-no-thread : isSegment k ≡ true → isThread k ≡ false
+  unfolding isThread kindCode
+  segment-no-thread = at-segment (λ j. isThread j ≡ false) refl
+
+  pub container-no-thread : isContainer k ≡ true → isThread k ≡ false
+  unfolding isThread kindCode
+  container-no-thread = at-container (λ j. isThread j ≡ false) refl
 
 -- an id that no object has
 pub nothing-dead : isLive (nothing .kind) ≡ false

@@ -6,9 +6,8 @@ use mathlib.Core.Path.{_≡_, refl, sym, _∙_, ap, ap₂, subst}
 use mathlib.Core.List.{List, []}
 use lib.ListN.{length}
 use lib.Dec.{eqb}
-use Rattle.labels.specs.declared.Label.{Label}
 use Rattle.quotas.specs.Sum.{Σ, when, sum-cong, sum-mono, sum-change, sum-none, sum-term, when-true, when-false, when-le, when-cong}
-use Rattle.rules.specs.Kernel.{isLive, isSegment, isContainer, hasClearance, Obj, nothing, World, units, charged, useOf, Edit, relabel, fix, requota, rewrite, edit, keep, alter, create, cut, link, put, linkIn, below, stays, kept, apply}
+use Rattle.rules.specs.Kernel.{isLive, isSegment, isContainer, hasClearance, Obj, nothing, World, units, charged, useOf, Edit, requota, rewrite, edit, keep, alter, create, cut, link, put, linkIn, below, stays, kept, apply}
 use Rattle.rules.specs.Sound.{Sound}
 use Rattle.rules.specs.Fair.{Moved, Linked, Made}
 use Rattle.rules.specs.Laws.Bools.{not-i, not-both, bool-cases, then-l}
@@ -177,18 +176,6 @@ module _ (w : World) (s : Sound w) where
       → (p : ℕ) → useOf (apply (alter o e) w) p ≡ useOf w p
   alter-use o e q b p =
       use-same w (apply (alter o e) w) p p (alter-kind w o e p) (alter-field w o e (λ x. x .bytes) b p) (λ k. alter-charged o e q p)
-
-  pub relabel-charged : (o : ℕ) (l c : Label) (d : ℕ) → charged (apply (alter o (relabel l c)) w) d ≡ charged w d
-  relabel-charged o l c = alter-charged o (relabel l c) (unfold edit in refl)
-
-  pub relabel-use : (o : ℕ) (l c : Label) (p : ℕ) → useOf (apply (alter o (relabel l c)) w) p ≡ useOf w p
-  relabel-use o l c = alter-use o (relabel l c) (unfold edit in refl) (unfold edit in refl)
-
-  pub fix-charged : (o d : ℕ) → charged (apply (alter o fix) w) d ≡ charged w d
-  fix-charged o = alter-charged o fix (unfold edit in refl)
-
-  pub fix-use : (o p : ℕ) → useOf (apply (alter o fix) w) p ≡ useOf w p
-  fix-use o = alter-use o fix (unfold edit in refl) (unfold edit in refl)
 
   pub rewrite-charged : (o : ℕ) (b : List ℕ) (d : ℕ) → charged (apply (alter o (rewrite b)) w) d ≡ charged w d
   rewrite-charged o b = alter-charged o (rewrite b) (unfold edit in refl)

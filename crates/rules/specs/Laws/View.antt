@@ -105,7 +105,6 @@ module _ (w : World) (s : Sound w) where
     con-live = λ c k. container-live ((w .obj c) .kind) k;
     root-in = s .ids (w .root) root-live .1;
     root-con = s .tree .root-container;
-    root-quota = s .tree .root-quota;
     root-none = sum-none (linkCount w) (leads (w .root)) (λ l m. leads-none (w .root) l (λ q on. not-both _ on (s .tree .root-top (l / w .next))));
     one = λ c l k n.
         let (d, on) = s .has-link c (container-live ((w .obj c) .kind) k) n in

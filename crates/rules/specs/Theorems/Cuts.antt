@@ -5,13 +5,14 @@ use mathlib.Core.Path.{_≡_, refl, sym, _∙_, ap, subst}
 use mathlib.Core.List.{List}
 use lib.Dec.{eqb}
 use borrow.Author.Tests.{eqb-true, eqb-false, eq-eqb, ne-eqb, not-true}
-use Rattle.rules.specs.Kernel.{isLive, isContainer, World, nothing, Change, cut, below, stays, kept, apply, unreference, grant, judge, entry, opens, call, answerOf, after, History, next, worldAfter}
+use Rattle.rules.specs.Kernel.{isLive, isContainer, World, nothing, Change, cut, below, stays, kept, apply, unreference, grant, judge, entry, call, answerOf, after, History, next, worldAfter}
 use Rattle.rules.specs.Sound.{Sound}
 use Rattle.rules.specs.Histories.{WellStarted}
 use Rattle.rules.specs.Trees.{here, down, Reaches, without, StillReached, Unlinked}
 use Rattle.rules.specs.Laws.Bools.{and-l, and-r, and-i, not-i, not-both, same-by}
 use Rattle.rules.specs.Laws.Kinds.{container-live, nothing-dead}
 use Rattle.rules.specs.Laws.Must.{must-test, passed}
+use Rattle.rules.specs.Laws.Entries.{entry-link}
 use Rattle.rules.specs.Laws.Below.{below-self, below-down, below-up, holder-not-below, root-not-below, container-free, stays-linked, stays-not-below, stays-not-cut, stays-i, root-kept, kept-cases, stays-kept}
 use Rattle.rules.specs.Laws.Effects.{cut-at}
 use Rattle.rules.specs.Laws.Outcome.{outcome, call-outcome}
@@ -106,9 +107,9 @@ cut-leaves w s d o there = record {
 
 -- a granted unreference names a link, and cuts it
 unreference-cuts : (w : World) (c d o v : ℕ) (b : List ℕ) (h : Change) → call w c (unreference d o) ≡ grant v b h → (w .linked d o ≡ true) × (h ≡ cut d o)
-unfolding judge entry outcome
+unfolding judge outcome
 unreference-cuts w c d o v b h e = (
-  and-r (opens w (w .obj c) d) (w .linked d o) (must-test v b h (entry w (w .obj c) d o) 5 _ (passed w c (unreference d o) v b h e .judged)),
+  entry-link w (w .obj c) d o (must-test v b h (entry w (w .obj c) d o) 5 _ (passed w c (unreference d o) v b h e .judged)),
   (let k = call-outcome w c (unreference d o) v b h e in cc),
 )
 

@@ -7,12 +7,12 @@ use mathlib.Core.List.{List}
 use lib.Dec.{leb}
 use lib.IntN.{pos, negsuc}
 use borrow.Author.Tests.{le-leb}
-use Rattle.labels.specs.Core.{mayRead}
 use Rattle.rules.specs.Kernel.{World, Obj, isContainer, isSegment, units, spareOf, Refusal, by, numberOf, Verdict, grant, unless, must, whyNot, mustHold, Change, Call, createCategory, setLabel, setClearance, createContainer, createSegment, createGate, createThread, unreference, linkSegment, fixQuota, moveQuota, read, write, resize, enterGate, look, call, tests, judge, make, move, access, opens, entry, fits, containerOf, segmentOf, gateOf, threadOf, answerOf, Condition, allHold, History, worldAfter}
 use Rattle.rules.specs.Histories.{WellStarted}
 use Rattle.rules.specs.Ledger.{Line, made, tied, movedIn, movedBack, lineIf, takesUnits, askedOf, unitsAsked, spends, draws, needs, refusedEarlier, reckoned}
-use Rattle.rules.specs.Laws.Bools.{and-l, and-r, and-i, not-both}
+use Rattle.rules.specs.Laws.Bools.{and-r, and-i, not-both}
 use Rattle.rules.specs.Laws.Must.{why-seven}
+use Rattle.rules.specs.Laws.Entries.{opens-container, entry-opens}
 use Rattle.rules.specs.Theorems.Reckoned.{reckoned-is-spare}
 
 -- ---- the tests before that of spare
@@ -49,10 +49,6 @@ pub record Decided (w : World) (l : Line) (a : ℕ) : Type 0 where
   pub answer : a ≡ cond (leb (unitsAsked w l) (spareOf w (askedOf l))) 0 13
 
 module _ (w : World) (c : ℕ) where
-  opened : (d : ℕ) → opens w (w .obj c) d ≡ true → isContainer ((w .obj d) .kind) ≡ true
-  unfolding opens
-  opened d e = and-l (isContainer ((w .obj d) .kind)) (mayRead ((w .obj c) .label) ((w .obj d) .label)) e
-
   past-judge : (P : ℕ → Type 0) (x : Call) → (refusedEarlier (answerOf (judge w (w .obj c) c x)) ≡ false → P (answerOf (judge w (w .obj c) c x)))
       → refusedEarlier (answerOf (call w c x)) ≡ false → P (answerOf (call w c x))
   unfolding call tests
@@ -60,10 +56,10 @@ module _ (w : World) (c : ℕ) where
 
   past-move : (P : ℕ → Type 0) (d o : ℕ) (more : List Condition) (r : Verdict) → (isContainer ((w .obj d) .kind) ≡ true → P (answerOf r))
       → refusedEarlier (answerOf (move w (w .obj c) d o more r)) ≡ false → P (answerOf (move w (w .obj c) d o more r))
-  unfolding move entry
+  unfolding move
   past-move P d o more r f =
       past P _ 4 _ (omega arith) λ p. past P _ 5 _ (omega arith) λ k. past-hold P _ _ λ q. past P _ 8 _ (omega arith) λ n z.
-      f (opened d (and-l (opens w (w .obj c) d) (w .linked d o) p))
+      f (opens-container w (w .obj c) d (entry-opens w (w .obj c) d o p))
 
   decided-make : (d n : ℕ) (x : Obj) (more : List Condition) → refusedEarlier (answerOf (make w (w .obj c) d x more)) ≡ false
       → Decided w (made d n (x .quota)) (answerOf (make w (w .obj c) d x more))
@@ -71,7 +67,7 @@ module _ (w : World) (c : ℕ) where
   decided-make d n x more =
       let P : ℕ → Type 0 = Decided w (made d n (x .quota)) in
       past P _ 4 _ (omega arith) λ p. past-hold P _ _ λ q. past P _ 7 _ (omega arith) λ m z.
-      record { is-container = λ s. opened d p; answer = decides _ _ _ _ }
+      record { is-container = λ s. opens-container w (w .obj c) d p; answer = decides _ _ _ _ }
 
   decided-judge : (x : Call) → spends w x ≡ true → refusedEarlier (answerOf (judge w (w .obj c) c x)) ≡ false
       → Decided w (lineIf (w .next) x) (answerOf (judge w (w .obj c) c x))
@@ -88,7 +84,7 @@ module _ (w : World) (c : ℕ) where
       let P : ℕ → Type 0 = Decided w (tied d o) in
       past P _ 4 _ (omega arith) λ p. past P _ 5 _ (omega arith) λ k. past-hold P _ _ λ q. past P _ 8 _ (omega arith) λ f.
       past P _ 9 _ (omega arith) λ n z.
-      record { is-container = λ e. opened d (and-r (entry w (w .obj c) d1 o) (opens w (w .obj c) d) p); answer = decides _ _ _ _ }
+      record { is-container = λ e. opens-container w (w .obj c) d (and-r (entry w (w .obj c) d1 o) (opens w (w .obj c) d) p); answer = decides _ _ _ _ }
   decided-judge (fixQuota d o) s = absurd (false≢true s)
   decided-judge (moveQuota d o (pos n)) s = past-move (Decided w (movedIn d o n)) d o _ _ λ k. record { is-container = λ e. k; answer = decides _ _ _ _ }
   decided-judge (moveQuota d o (negsuc n)) s = past-move (Decided w (movedBack d o (suc n))) d o _ _ λ k. record { is-container = λ e. e; answer = decides _ _ _ _ }

@@ -15,7 +15,7 @@ use Rattle.rules.specs.Sound.{Sound}
 use Rattle.rules.specs.Histories.{WellStarted}
 use Rattle.rules.specs.Trees.{Way, here, down, Reaches, inTree}
 use Rattle.rules.specs.Laws.Kinds.{container-live}
-use Rattle.rules.specs.Laws.Falls.{falls, quota-most}
+use Rattle.rules.specs.Laws.Falls.{falls}
 use Rattle.rules.specs.Laws.Below.{under-step, below-self, below-down}
 use Rattle.rules.specs.Laws.View.{viewOf, linkCount, view-fitting, under-way}
 use Rattle.rules.specs.Theorems.StaysSound.{history-sound}
@@ -51,17 +51,16 @@ module _ (w : World) (s : Sound w) where
   pub tree-holds : (d : ℕ) → isContainer ((w .obj d) .kind) ≡ true → Σ (w .next) (λ o. when (inTree w d o) (holdOf w o)) ≤ (w .obj d) .quota
   unfolding below
   tree-holds d k =
-      let most = quota-most w s d (container-live ((w .obj d) .kind) k) in
       let v = viewOf w in
       let fit = view-fitting w s in
       let m = linkCount w in
       omega (
         arith,
-        held-in-tree v (w .next) m (w .root) fit d (s .ids d (container-live ((w .obj d) .kind) k) .1) k most,
+        held-in-tree v (w .next) m (w .root) fit d (s .ids d (container-live ((w .obj d) .kind) k) .1) k,
         sum-mono (w .next) (λ o. when (inTree w d o) (holdOf w o)) (λ o. when (in-tree v m d o) (holdOf w o))
             (λ o l. when-le (inTree w d o) (holdOf w o) (when (in-tree v m d o) (holdOf w o)) (λ h.
             let (j, i, t) = any-found rootQuota (λ j. under w d j o) h in
-            let e = when-true (in-tree v m d o) (holdOf w o) (way-tree v (w .next) m (w .root) fit d most (under-way w s d j o t)) in
+            let e = when-true (in-tree v m d o) (holdOf w o) (way-tree v (w .next) m (w .root) fit d (under-way w s d j o t)) in
             omega arith)),
       )
 

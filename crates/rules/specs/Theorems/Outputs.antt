@@ -11,12 +11,13 @@ use borrow.Author.Tests.{leb-true, eqb-true}
 use Rattle.labels.specs.declared.Label.{Label}
 use Rattle.labels.specs.Core.{mayRead, wordCount, wordsBytes}
 use Rattle.labels.specs.Core.Bytes.{wordsBytes-length}
-use Rattle.rules.specs.Kernel.{isLive, isThread, isGate, isContainer, Obj, World, Call, createCategory, setLabel, setClearance, createContainer, createSegment, createGate, createThread, unreference, linkSegment, fixQuota, moveQuota, read, write, resize, enterGate, look, Change, Verdict, refused, grant, opens, entry, lookBytes, textSize, lookSize, judge, call, answerOf, outputOf, blockSize}
+use Rattle.rules.specs.Kernel.{isLive, isThread, isGate, Obj, World, Call, createCategory, setLabel, setClearance, createContainer, createSegment, createGate, createThread, unreference, linkSegment, fixQuota, moveQuota, read, write, resize, enterGate, look, Change, Verdict, refused, grant, opens, entry, lookBytes, textSize, lookSize, judge, call, answerOf, outputOf, blockSize}
 use Rattle.rules.specs.Sound.{InRange, Sound}
 use Rattle.rules.specs.Answers.{outputSize}
 use Rattle.rules.specs.Laws.Bools.{and-l, and-r, or-cases}
 use Rattle.rules.specs.Laws.Kinds.{container-live, gate-cleared, cleared-live}
 use Rattle.rules.specs.Laws.Must.{must-test, must-rest, passed}
+use Rattle.rules.specs.Laws.Entries.{opens-container}
 use Rattle.rules.specs.Laws.Lengths.{taken-length}
 use Rattle.rules.specs.Laws.Outcome.{outcome, call-outcome, access-outcome}
 use Rattle.rules.specs.Theorems.Refusals.{granted}
@@ -48,11 +49,11 @@ module _ (w : World) (s : Sound w) (c v : ℕ) (b : List ℕ) (h : Change) where
       s .ranges g (cleared-live ((w .obj g) .kind) (gate-cleared ((w .obj g) .kind) k)) .closure-size k
 
   look-live : (d o out : ℕ) → judge w t c (look d o out) ≡ grant v b h → isLive ((w .obj o) .kind) ≡ true
-  unfolding judge opens
+  unfolding judge
   look-live d o out e =
       let p = must-test v b h (opens w t d && (eqb o d || w .linked d o)) 5 _ e in
       let q = and-l (opens w t d) (eqb o d || w .linked d o) p in
-      let k = container-live ((w .obj d) .kind) (and-l (isContainer ((w .obj d) .kind)) (mayRead (t .label) ((w .obj d) .label)) q) in
+      let k = container-live ((w .obj d) .kind) (opens-container w t d q) in
       or-cases (eqb o d) (w .linked d o) (and-r (opens w t d) (eqb o d || w .linked d o) p)
       (λ e. subst (λ (i : ℕ). isLive ((w .obj i) .kind) ≡ true) (sym (eqb-true o d e)) k)
       (s .tree .held d o)

@@ -14,14 +14,15 @@ use Rattle.rules.specs.Kernel.{isLive, isGate, isSegment, Obj, World, keep, alt
 use Rattle.rules.specs.Kernel.{createContainer, createSegment, createGate, createThread, unreference, linkSegment, fixQuota, moveQuota, read, write, resize}
 use Rattle.rules.specs.Kernel.{enterGate, look, flow, reading, writing, grant, opens, entry, lookBytes, judge}
 use Rattle.rules.specs.Laws.Bools.{and-l, and-r, or-cases}
-use Rattle.rules.specs.Laws.Kinds.{thread-live, thread-cleared, gate-cleared, cleared-live}
+use Rattle.rules.specs.Laws.Kinds.{thread-live, thread-cleared, gate-cleared, cleared-live, segment-no-thread}
+use Rattle.rules.specs.Laws.Entries.{entry-opens, entry-link}
 use Rattle.rules.specs.Laws.Must.{all-head, all-tail}
 use Rattle.rules.specs.Laws.Category.{starred-at}
 use Rattle.tainted.specs.Laws.Levels.{flow-holds, floor-holds, flows-at, floor-at, reading-holds, writing-reading}
-use Rattle.tainted.specs.Laws.Seen.{gate-open, segment-no-thread, same-kind, same-label, same-fixed, same-quota, same-unveiled}
-use Rattle.tainted.specs.Laws.Respects.{lv, Grants, Calling, pass, pass7, done, some, mine, mine-entry, found, held, entry-link, make-respects}
+use Rattle.tainted.specs.Laws.Seen.{gate-open, same-kind, same-label, same-fixed, same-quota, same-unveiled}
+use Rattle.tainted.specs.Laws.Respects.{lv, Grants, Calling, pass, pass7, done, some, mine, mine-entry, found, held, make-respects}
 use Rattle.tainted.specs.Laws.Respects.{move-respects, access-respects, rewrites}
-use Rattle.tainted.specs.Laws.Same.{must-same, must7-same, and-same, Before, room, opens-same, open-obj, entry-opens, entry-same, entry-seen, read-obj}
+use Rattle.tainted.specs.Laws.Same.{must-same, must7-same, and-same, Before, room, opens-same, open-obj, entry-same, entry-seen, read-obj}
 use Rattle.tainted.specs.Laws.Same.{reads-untainted, fits-same, room-same, make-same, access-same, move-same, look-seen}
 
 pub record Unseen (v : ℕ) (x : Call) : Type 0 where
@@ -89,10 +90,10 @@ module _ (v : ℕ) where
   unfolding judge
   unreferenced d o =
       record {
-        respects = λ w c t. pass _ 5 _ (λ p. pass7 _ _ (λ q. done _ _ (cut d o) (mine-entry t d o p q, entry-link t d o p)));
+        respects = λ w c t. pass _ 5 _ (λ p. pass7 _ _ (λ q. done _ _ (cut d o) (mine-entry t d o p q, entry-link w (w .obj c) d o p)));
         same = λ t c a b s.
             must-same _ _ 5 _ _ (entry-same s d o) (λ h.
-            must7-same _ _ _ _ (ap (λ (x : Obj). writing (t .label) (x .label)) (open-obj s d (entry-opens s d o h))) (λ h7. refl));
+            must7-same _ _ _ _ (ap (λ (x : Obj). writing (t .label) (x .label)) (open-obj s d (entry-opens a t d o h))) (λ h7. refl));
       }
 
   linked : (d1 o d : ℕ) → Unseen v (linkSegment d1 o d)
@@ -128,7 +129,7 @@ module _ (v : ℕ) where
         respects = λ w c t. pass _ 5 _ (λ p. pass _ 6 _ (λ r. pass7 _ _ (λ q. done _ _ _ (d, held t d o [] p q))));
         same = λ t c a b s.
             must-same _ _ 5 _ _ (entry-same s d o) (λ h.
-            let q = open-obj s d (entry-opens s d o h) in
+            let q = open-obj s d (entry-opens a t d o h) in
             let i = entry-seen s d o h in
             must-same _ _ 6 _ _ (ap isSegment (same-kind v (a .obj o) (b .obj o) i)) (λ h6.
             let m = same-label v (a .obj o) (b .obj o) i (segment-no-thread ((a .obj o) .kind) h6) in

@@ -4,7 +4,7 @@ use mathlib.Core.Bool.{Bool, true, false, cond, _||_}
 use mathlib.Core.Path.{_≡_, refl, sym, _∙_, ap, ap₂, subst}
 use lib.Dec.{eqb}
 use borrow.Author.Tests.{eqb-true}
-use Rattle.quotas.specs.Any.{any, any-found, any-of}
+use Rattle.quotas.specs.Any.{any, any-cong, any-found}
 use Rattle.rules.specs.Kernel.{nothing, World, keep, cut, under, below, stays, kept, apply, rootQuota}
 use Rattle.rules.specs.Sound.{Sound}
 use Rattle.rules.specs.Laws.Bools.{not-i, not-both, same-by, bool-cases}
@@ -14,11 +14,6 @@ use Rattle.tainted.specs.Tainted.{untaintedContainer}
 use Rattle.tainted.specs.Laws.Rooms.{room-container, no-container-no-room}
 use Rattle.tainted.specs.Laws.Seen.{seen}
 use Rattle.tainted.specs.Laws.Alike.{TermsKept, Alike, up}
-
-any-same : (n : ℕ) (f g : ℕ → Bool) → ((i : ℕ) → f i ≡ g i) → any n f ≡ any n g
-any-same n f g h =
-    same-by (any n f) (any n g) (λ e. let (i, l, t) = any-found n f e in any-of n g i l (sym (h i) ∙ t))
-    (λ e. let (i, l, t) = any-found n g e in any-of n f i l (h i ∙ t))
 
 then-same : (a b c d : Bool) → a ≡ b → (a ≡ true → c ≡ d) → cond a c false ≡ cond b d false
 then-same true b c d p q = rw (← p, q refl)
@@ -57,8 +52,8 @@ module _ (v : ℕ) where
     unfolding under
     under-both o zero e h = refl
     under-both o (suc k) e h =
-        any-same (a .next) (λ d. cond (a .linked d e) (under a o k d) false) (λ d. cond (b .linked d e) (under b o k d) false)
-        (λ d. bool-cases (untaintedContainer v (a .obj d))
+        any-cong (a .next) (λ d. cond (a .linked d e) (under a o k d) false) (λ d. cond (b .linked d e) (under b o k d) false)
+        (λ d l. bool-cases (untaintedContainer v (a .obj d))
         (λ q. then-same (a .linked d e) (b .linked d e) (under a o k d) (under b o k d) (s .links d e q) (λ l. under-both o k d q))
         (λ q. then-none (a .linked d e) (under a o k d) (not-from a sa ca d e h q)
         ∙ sym (then-none (b .linked d e) (under b o k d) (not-from b sb cb d e (sym (s .rooms e) ∙ h) (sym (s .rooms d) ∙ q)))))
@@ -66,7 +61,7 @@ module _ (v : ℕ) where
 
     below-both : (o e : ℕ) → untaintedContainer v (a .obj e) ≡ true → below a o e ≡ below b o e
     unfolding below
-    below-both o e h = any-same rootQuota (λ k. under a o k e) (λ k. under b o k e) (λ k. under-both o k e h)
+    below-both o e h = any-cong rootQuota (λ k. under a o k e) (λ k. under b o k e) (λ k l. under-both o k e h)
 
     stays-both : (d o e p : ℕ) → untaintedContainer v (a .obj e) ≡ true → stays a d o e p ≡ stays b d o e p
     unfolding stays
@@ -80,8 +75,8 @@ module _ (v : ℕ) where
     unfolding kept
     kept-both d o p h =
         ap₂ (λ (x y : Bool). x || y) (ap (eqb p) (s .same-root))
-        (any-same (a .next) (λ e. stays a d o e p) (λ e. stays b d o e p)
-        (λ e. bool-cases (untaintedContainer v (a .obj e)) (λ q. stays-both d o e p q)
+        (any-cong (a .next) (λ e. stays a d o e p) (λ e. stays b d o e p)
+        (λ e l. bool-cases (untaintedContainer v (a .obj e)) (λ q. stays-both d o e p q)
         (λ q. stays-none a sa ca d o e p h q ∙ sym (stays-none b sb cb d o e p (sym (s .rooms p) ∙ h) (sym (s .rooms e) ∙ q))))
         ∙ ap (λ (n : ℕ). any n (λ e. stays b d o e p)) (s .same-next))
 

@@ -12,7 +12,7 @@ use Rattle.rules.specs.Sound.{Sound}
 use Rattle.rules.specs.Laws.Bools.{not-both}
 use Rattle.rules.specs.Laws.Kinds.{thread-live, container-live, thread-no-container, nothing-dead}
 use Rattle.rules.specs.Laws.Put.{put-same, put-other, put-at, link-cases}
-use Rattle.rules.specs.Laws.Edit.{edit-kind}
+use Rattle.rules.specs.Laws.Edit.{edit-kind, fix-label, requota-label, rewrite-label}
 use Rattle.rules.specs.Laws.Usage.{held-below, holder-below}
 use Rattle.rules.specs.Laws.Below.{stays-linked, stays-not-below, stays-kept, container-kept}
 use Rattle.rules.specs.Laws.Effects.{cut-at}
@@ -20,7 +20,6 @@ use Rattle.tainted.specs.Tainted.{untainted}
 use Rattle.tainted.specs.Laws.Rooms.{untainted-le, le-untainted}
 use Rattle.tainted.specs.Laws.Alike.{TermsKept}
 use Rattle.tainted.specs.Laws.Respects.{lv, Mine, Respects}
-use Rattle.tainted.specs.Laws.Step.{fix-label, requota-label, rewrite-label}
 
 module _ (v : ℕ) (w : World) (so : Sound w) (cl : TermsKept v w) where
   pub kept-keep : TermsKept v (apply keep w)

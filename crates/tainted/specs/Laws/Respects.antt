@@ -4,13 +4,13 @@ use mathlib.Core.Bool.{Bool, true, false}
 use mathlib.Core.Path.{_≡_}
 use mathlib.Core.List.{List, _∷_, _++_}
 use borrow.Author.Tests.{not-true}
-use Rattle.labels.specs.Core.{at, mayRead}
+use Rattle.labels.specs.Core.{at}
 use Rattle.rules.specs.Kernel.{isThread, isSegment, isContainer, Obj, World, Edit, relabel, fix, requota, rewrite, Change, keep, alter, create, cut, link}
 use Rattle.rules.specs.Kernel.{Condition, allHold, flow, writing, Verdict, grant, must, mustHold, opens, entry, make, move, access}
 use Rattle.rules.specs.Sound.{Sound}
-use Rattle.rules.specs.Laws.Bools.{and-l, and-r}
 use Rattle.rules.specs.Laws.Kinds.{thread-live}
 use Rattle.rules.specs.Laws.Must.{must-test, must-rest, hold-test, hold-rest, same-change, all-head, all-left, all-right}
+use Rattle.rules.specs.Laws.Entries.{opens-container, opens-read, entry-opens, entry-link}
 use Rattle.tainted.specs.Laws.Levels.{flow-holds, flows-at, reads-at, writes-at}
 use Rattle.tainted.specs.Laws.Alike.{TermsKept}
 
@@ -81,37 +81,23 @@ module _ {v : ℕ} {w : World} {c : ℕ} where
     pub some : 1 ≤ lv v w c
     some = t .terms .no-star c (thread-live ((w .obj c) .kind) (t .is-thread))
 
-    pub opens-container : (d : ℕ) → opens w (w .obj c) d ≡ true → isContainer ((w .obj d) .kind) ≡ true
-    unfolding opens
-    opens-container d p = and-l (isContainer ((w .obj d) .kind)) (mayRead ((w .obj c) .label) ((w .obj d) .label)) p
-
     opens-level : (d : ℕ) → opens w (w .obj c) d ≡ true → lv v w d ≤ lv v w c
-    unfolding opens
-    opens-level d p =
-        reads-at v ((w .obj c) .label) some ((w .obj d) .label) (and-r (isContainer ((w .obj d) .kind)) (mayRead ((w .obj c) .label) ((w .obj d) .label)) p)
-
-    entry-opens : (d o : ℕ) → entry w (w .obj c) d o ≡ true → opens w (w .obj c) d ≡ true
-    unfolding entry
-    entry-opens d o p = and-l (opens w (w .obj c) d) (w .linked d o) p
-
-    pub entry-link : (d o : ℕ) → entry w (w .obj c) d o ≡ true → w .linked d o ≡ true
-    unfolding entry
-    entry-link d o p = and-r (opens w (w .obj c) d) (w .linked d o) p
+    opens-level d p = reads-at v ((w .obj c) .label) some ((w .obj d) .label) (opens-read w (w .obj c) d p)
 
     pub mine : (d : ℕ) (more : List Condition) → opens w (w .obj c) d ≡ true → allHold (writing ((w .obj c) .label) ((w .obj d) .label) ++ more) ≡ true → Mine v w c d
     mine d more p q =
         record {
-          is-container = opens-container d p;
+          is-container = opens-container w (w .obj c) d p;
           level = writes-at v ((w .obj c) .label) some ((w .obj d) .label) (all-left (writing ((w .obj c) .label) ((w .obj d) .label)) more q);
         }
 
     pub mine-entry : (d o : ℕ) → entry w (w .obj c) d o ≡ true → allHold (writing ((w .obj c) .label) ((w .obj d) .label)) ≡ true → Mine v w c d
     mine-entry d o p q =
-        record { is-container = opens-container d (entry-opens d o p); level = writes-at v ((w .obj c) .label) some ((w .obj d) .label) q }
+        record { is-container = opens-container w (w .obj c) d (entry-opens w (w .obj c) d o p); level = writes-at v ((w .obj c) .label) some ((w .obj d) .label) q }
 
     pub found : (d o : ℕ) → entry w (w .obj c) d o ≡ true → Found v w c o
     found d o p =
-        record { from = d; is-container = opens-container d (entry-opens d o p); is-linked = entry-link d o p; level = opens-level d (entry-opens d o p) }
+        record { from = d; is-container = opens-container w (w .obj c) d (entry-opens w (w .obj c) d o p); is-linked = entry-link w (w .obj c) d o p; level = opens-level d (entry-opens w (w .obj c) d o p) }
 
     -- the caller's label flows to x, a condition after those of writing d
     pub not-below : (d : ℕ) (x : Obj) (more : List Condition)
@@ -121,7 +107,7 @@ module _ {v : ℕ} {w : World} {c : ℕ} where
 
     pub held : (d o : ℕ) (more : List Condition) → entry w (w .obj c) d o ≡ true
         → allHold (writing ((w .obj c) .label) ((w .obj d) .label) ++ (flow ((w .obj c) .label) ((w .obj o) .label) ∷ more)) ≡ true → Held v w c d o
-    held d o more p q = record { mine = mine d _ (entry-opens d o p) q; is-linked = entry-link d o p; above = not-below d (w .obj o) more q }
+    held d o more p q = record { mine = mine d _ (entry-opens w (w .obj c) d o p) q; is-linked = entry-link w (w .obj c) d o p; above = not-below d (w .obj o) more q }
 
     -- ---- by the rules that calls share
 

@@ -11,13 +11,15 @@ use Rattle.labels.specs.Core.{at, mayRead}
 use Rattle.quotas.specs.Sum.{Σ, when, sum-cong, when-cong}
 use Rattle.rules.specs.Kernel.{Kind, isThread, isSegment, isContainer, Obj, World, charged, spareOf, Condition, allHold, flow, reading, writing, Verdict, unless, must, whyNot, mustHold}
 use Rattle.rules.specs.Kernel.{opens, entry, fits, make, move, access, lookBytes}
-use Rattle.rules.specs.Laws.Bools.{and-l, and-r, not-both, not-i, bool-cases}
+use Rattle.rules.specs.Laws.Bools.{not-both, not-i, bool-cases}
+use Rattle.rules.specs.Laws.Kinds.{segment-no-thread}
+use Rattle.rules.specs.Laws.Entries.{opens-container, opens-read, entry-opens, entry-link}
 use Rattle.rules.specs.Laws.Must.{all-tail, all-right}
 use Rattle.rules.specs.Laws.Usage.{use-same}
 use Rattle.tainted.specs.Tainted.{untainted, untaintedContainer}
 use Rattle.tainted.specs.Laws.Levels.{reads-at, reading-holds}
 use Rattle.tainted.specs.Laws.Rooms.{untainted-le, le-untainted, room-of, room-untainted}
-use Rattle.tainted.specs.Laws.Seen.{seen, segment-no-thread, movable-no-thread, same-whole, same-kind, same-quota, same-fixed, same-description}
+use Rattle.tainted.specs.Laws.Seen.{seen, movable-no-thread, same-whole, same-kind, same-quota, same-fixed, same-description}
 use Rattle.tainted.specs.Laws.Seen.{same-taint, same-label}
 use Rattle.tainted.specs.Laws.Alike.{Alike}
 
@@ -55,10 +57,7 @@ module _ {v : ℕ} {t : Obj} {a b : World} (s : Before v t a b) where
       le-untainted v x (omega (arith, reads-at v (t .label) (s .no-star) (x .label) h, untainted-le v t (s .is-untainted)))
 
   opens-room : (w : World) (d : ℕ) → opens w t d ≡ true → untaintedContainer v (w .obj d) ≡ true
-  unfolding opens
-  opens-room w d h =
-      room-of v (w .obj d) (and-l (isContainer ((w .obj d) .kind)) (mayRead (t .label) ((w .obj d) .label)) h)
-      (reads-untainted (w .obj d) (and-r (isContainer ((w .obj d) .kind)) (mayRead (t .label) ((w .obj d) .label)) h))
+  opens-room w d h = room-of v (w .obj d) (opens-container w t d h) (reads-untainted (w .obj d) (opens-read w t d h))
 
   pub room : (d : ℕ) → opens a t d ≡ true → untaintedContainer v (a .obj d) ≡ true
   room d h = opens-room a d h
@@ -77,18 +76,13 @@ module _ {v : ℕ} {t : Obj} {a b : World} (s : Before v t a b) where
   pub open-obj : (d : ℕ) → opens a t d ≡ true → a .obj d ≡ b .obj d
   open-obj d h = s .alike .room-objs d (room d h)
 
-  pub entry-opens : (d o : ℕ) → entry a t d o ≡ true → opens a t d ≡ true
-  unfolding entry
-  entry-opens d o h = and-l (opens a t d) (a .linked d o) h
-
   pub entry-same : (d o : ℕ) → entry a t d o ≡ entry b t d o
   unfolding entry
   entry-same d o = and-same (opens a t d) (opens b t d) (a .linked d o) (b .linked d o) (opens-same d) (λ h. s .alike .links d o (room d h))
 
   -- what is linked in an open container looks the same
   pub entry-seen : (d o : ℕ) → entry a t d o ≡ true → seen v (a .obj o) ≡ seen v (b .obj o)
-  unfolding entry
-  entry-seen d o h = s .alike .objs d o (room d (and-l (opens a t d) (a .linked d o) h)) (and-r (opens a t d) (a .linked d o) h)
+  entry-seen d o h = s .alike .objs d o (room d (entry-opens a t d o h)) (entry-link a t d o h)
 
   -- and is the same if it is read
   pub read-obj : (o : ℕ) → seen v (a .obj o) ≡ seen v (b .obj o) → allHold (reading (t .label) ((a .obj o) .label)) ≡ true → a .obj o ≡ b .obj o
@@ -145,7 +139,7 @@ module _ {v : ℕ} {t : Obj} {a b : World} (s : Before v t a b) where
   unfolding move
   move-same d o f r u g =
       must-same _ _ 5 _ _ (entry-same d o) (λ h.
-      let z = entry-opens d o h in
+      let z = entry-opens a t d o h in
       let q = open-obj d z in
       let i = entry-seen d o h in
       must-same _ _ 6 _ _ (ap (λ (k : Kind). isSegment k || isContainer k) (same-kind v (a .obj o) (b .obj o) i)) (λ h6.

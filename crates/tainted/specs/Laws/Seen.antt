@@ -5,9 +5,9 @@ use mathlib.Core.Bool.{Bool, true, false, not, cond, _&&_, _||_}
 use mathlib.Core.Path.{_≡_, refl, sym, _∙_, ap, ap₂}
 use mathlib.Core.List.{[]}
 use borrow.Author.Tests.{not-true}
-use Rattle.rules.specs.Kernel.{Kind, absent, thread, gate, segment, container, kindCode, isThread, isGate, isSegment, isContainer, Obj, blank, Edit, edit}
+use Rattle.rules.specs.Kernel.{Kind, absent, thread, gate, segment, container, isThread, isGate, isSegment, isContainer, Obj, blank, altered, Edit, edit}
 use Rattle.rules.specs.Laws.Bools.{and-r, or-cases, not-both, not-i, bool-cases}
-use Rattle.rules.specs.Laws.Kinds.{is-gate, is-segment, is-container}
+use Rattle.rules.specs.Laws.Kinds.{is-gate, segment-no-thread, container-no-thread}
 use Rattle.rules.specs.Laws.Edit.{edit-kind}
 use Rattle.tainted.specs.Tainted.{untainted, untaintedContainer}
 
@@ -26,19 +26,7 @@ secret v x = veiled (x .kind) && not (untainted v x)
 
 -- the rest of such an object: of a thread no label and clearance, of a segment no bytes
 unfoldable pub outside : Obj → Obj
-outside x =
-    record {
-      kind = x .kind;
-      label = cond (isThread (x .kind)) blank (x .label);
-      clearance = blank;
-      quota = x .quota;
-      fixed = x .fixed;
-      mask = x .mask;
-      bytes = [];
-      entry = x .entry;
-      description = x .description;
-      closure = x .closure;
-    }
+outside x = altered x (cond (isThread (x .kind)) blank (x .label)) blank (x .quota) (x .fixed) []
 
 pub record Seen : Type 0 where
   pub hidden : Bool
@@ -54,20 +42,8 @@ module _ (k : Kind) where
   unfolding veiled
   gate-open h = ap veiled (is-gate k h)
 
-  pub container-open : isContainer k ≡ true → veiled k ≡ false
-  unfolding veiled
-  container-open h = ap veiled (is-container k h)
-
-  pub segment-no-thread : isSegment k ≡ true → isThread k ≡ false
-  unfolding isThread kindCode
-  segment-no-thread h = ap isThread (is-segment k h)
-
-  pub container-no-thread : isContainer k ≡ true → isThread k ≡ false
-  unfolding isThread kindCode
-  container-no-thread h = ap isThread (is-container k h)
-
   pub movable-no-thread : (isSegment k || isContainer k) ≡ true → isThread k ≡ false
-  movable-no-thread h = or-cases (isSegment k) (isContainer k) h segment-no-thread container-no-thread
+  movable-no-thread h = or-cases (isSegment k) (isContainer k) h (segment-no-thread k) (container-no-thread k)
 
 -- ---- what follows from the same appearance
 

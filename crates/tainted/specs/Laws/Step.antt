@@ -4,14 +4,13 @@ use Prim.Native.Nat.{ℕ, _<_, _≤_}
 use native.Mathlib.Omega.{arith}
 use mathlib.Core.Bool.{true, false}
 use mathlib.Core.Path.{_≡_, refl, sym, _∙_, ap, subst}
-use mathlib.Core.List.{List}
 use Rattle.labels.specs.declared.Label.{Label}
 use Rattle.labels.specs.Core.{at, level1}
 use Rattle.rules.specs.Kernel.{isThread, isContainer, Obj, World, Edit, relabel, fix, requota, rewrite, edit, Change, keep, alter, create, cut, link, apply}
 use Rattle.rules.specs.Sound.{Sound}
 use Rattle.rules.specs.Laws.Bools.{not-both, bool-cases}
 use Rattle.rules.specs.Laws.Kinds.{is-thread, is-segment, thread-no-container}
-use Rattle.rules.specs.Laws.Edit.{edit-kind}
+use Rattle.rules.specs.Laws.Edit.{edit-kind, fix-label, requota-label, rewrite-label}
 use Rattle.tainted.specs.Tainted.{untainted, untaintedContainer}
 use Rattle.tainted.specs.Laws.Rooms.{untainted-le, le-untainted, gt-tainted, room-of, no-container-no-room, tainted-no-room}
 use Rattle.tainted.specs.Laws.Seen.{veiled, outside, seen, secret-same, edit-taint, edit-container, edit-seen}
@@ -20,20 +19,6 @@ use Rattle.tainted.specs.Laws.Both.{keep-both, alter-both, link-both, cr
 use Rattle.tainted.specs.Laws.Quiet.{alter-quiet, link-quiet, create-quiet}
 use Rattle.tainted.specs.Laws.Cut.{cut-both, cut-quiet}
 use Rattle.tainted.specs.Laws.Respects.{lv, Mine, Held, Respects}
-
--- ---- edits that leave the label
-
-pub fix-label : (x : Obj) → (edit fix x) .label ≡ x .label
-unfolding edit
-fix-label x = refl
-
-pub requota-label : (q : ℕ) (x : Obj) → (edit (requota q) x) .label ≡ x .label
-unfolding edit
-requota-label q x = refl
-
-pub rewrite-label : (b : List ℕ) (x : Obj) → (edit (rewrite b) x) .label ≡ x .label
-unfolding edit
-rewrite-label b x = refl
 
 module _ (v : ℕ) where
   -- ---- a tainted caller

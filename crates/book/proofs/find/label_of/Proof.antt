@@ -1,6 +1,6 @@
 use Rattle.tables.specs.Layout.{view}
 use Rattle.book.specs.Book.{labelOf}
-use Rattle.book.specs.Laws.Worlds.{label-ext}
+use Rattle.labels.specs.Core.Same.{label-ext}
 use borrow.Author.Needs.{needs}
 use Rattle.book.proofs.find.label_of.Statement.{statement}
 use Rattle.book.proofs.find.label_of.Tie as tie

@@ -1,8 +1,7 @@
--- Worlds, objects and labels are one where all that they hold is.
+-- Worlds and objects are one where all that they hold is.
 use Prim.Native.Nat.{ℕ}
 use mathlib.Core.Path.{_≡_}
-use Rattle.labels.specs.declared.Label.{Label}
 use Rattle.rules.specs.Kernel.{Obj, World}
 
 -- Two worlds are one where next number, root, every object and every pair's link are.
 pub world-ext : (w x : World) → w .next ≡ x .next → w .root ≡ x .root → ((o : ℕ) → w .obj o ≡ x .obj o) → ((d o : ℕ) → w .linked d o ≡ x .linked d o) → w ≡ x
@@ -13,7 +12,3 @@ pub obj-ext : (x y : Obj) → x .kind ≡ y .kind → x .label ≡ y .label → 
     → x .mask ≡ y .mask → x .bytes ≡ y .bytes → x .entry ≡ y .entry → x .description ≡ y .description → x .closure ≡ y .closure → x ≡ y
 obj-ext x y k l c q f m b e d s =
     λ i. record { kind = k i; label = l i; clearance = c i; quota = q i; fixed = f i; mask = m i; bytes = b i; entry = e i; description = d i; closure = s i }
-
--- Two labels are one where default and words are.
-pub label-ext : (l m : Label) → l .default ≡ m .default → l .words ≡ m .words → l ≡ m
-label-ext l m d w = λ i. record { default = d i; words = w i }
