@@ -11,7 +11,8 @@ use Rattle.labels.specs.declared.Label.{Label}
 use Rattle.labels.specs.Core.{wordCount}
 use Rattle.quotas.specs.Any.{both}
 use Rattle.rules.specs.Kernel.{Obj, kindCode, Edit, relabel, fix, requota, rewrite, Change, keep, alter, create, cut, link, stays, kept, blockSize, textSize, start}
-use Rattle.tables.specs.Layout.{View, rowCount, linkCount, blockCount, nextT, rootT, idT, kindT, maskT, fixedT, quotaT, lenT, entryT, labelDefaultT, labelWordsT, clearDefaultT, clearWordsT, descriptionT, closureT, linkFromT, linkToT, ownerT, indexT, empty, onTab, putT, runT}
+use Rattle.tables.specs.Layout.{View, rowCount, linkCount, blockCount, nextT, rootT, idT, kindT, maskT, fixedT, quotaT, lenT, entryT, labelDefaultT, labelWordsT, clearDefaultT}
+use Rattle.tables.specs.Layout.{clearWordsT, descriptionT, closureT, linkFromT, linkToT, ownerT, indexT, empty, onTab, putT, runT}
 use Rattle.book.specs.Book.{nextOf, idOf, codeOf, lenOf, markOf, toOf, ownerOf, indexOf, blocksOf, first, onFound, rowOf, collect, worldOf}
 use Rattle.book.specs.declared.Found.{Found}
 

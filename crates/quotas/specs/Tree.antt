@@ -6,7 +6,8 @@ use native.Mathlib.Omega.{arith}
 use lib.Dec.{eqb}
 use borrow.Author.Tests.{eqb-true, eqb-false, eq-eqb, ne-eqb}
 use Rattle.quotas.specs.Any.{no-both}
-use Rattle.quotas.specs.Sum.{Σ, when, sum-cong, sum-mono, sum-add, sum-none, sum-swap, sum-term, sum-point, sum-when, sum-const2, sum-pick, when-true, when-false, when-cong, when-none, when-add, when-swap, when-split, when-le}
+use Rattle.quotas.specs.Sum.{Σ, when, sum-cong, sum-mono, sum-add, sum-none, sum-swap, sum-term, sum-point, sum-when, sum-const2, sum-pick, when-true, when-false, when-cong}
+use Rattle.quotas.specs.Sum.{when-none, when-add, when-swap, when-split, when-le}
 
 pub record View : Type 0 where
   -- row r is live; is a live container

@@ -22,7 +22,8 @@ use Rattle.tables.specs.Layout.{View, rowCount, linkCount, blockCount, nextT, f
 use Rattle.rules.specs.Laws.Worlds.{world-ext}
 use Rattle.tables.specs.Layout.Laws.{within}
 use Rattle.tables.specs.Layout.Runs.{sets-read, sets-before, sets-behind}
-use Rattle.book.specs.Book.{nextOf, rootOf, idOf, codeOf, fixedOf, quotaOf, lenOf, labelOf, clearanceOf, fromOf, toOf, ownerOf, indexOf, blocksOf, first, blockAt, placeOf, bytesOf, kindFrom, objectAt, rowOf, worldOf, ThreadOrGate}
+use Rattle.book.specs.Book.{nextOf, rootOf, idOf, codeOf, fixedOf, quotaOf, lenOf, labelOf, clearanceOf, fromOf, toOf, ownerOf, indexOf, blocksOf, first, blockAt, placeOf}
+use Rattle.book.specs.Book.{bytesOf, kindFrom, objectAt, rowOf, worldOf, ThreadOrGate}
 use Rattle.book.specs.Sound.{Live, On, Used, Owned, timesHeld}
 use Rattle.book.specs.Placed.{Placed}
 use Rattle.book.specs.Shape.{Shape}

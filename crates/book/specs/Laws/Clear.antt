@@ -18,7 +18,8 @@ use Rattle.book.specs.Sound.{Live, Sound}
 use Rattle.book.specs.Placed.{Placed}
 use Rattle.book.specs.Shape.{Shape}
 use Rattle.book.specs.Clear.{Clear}
-use Rattle.book.specs.Enact.{areaSize, movedOn, relabelled, fixedAt, requotaed, freeRow, freeLink, rowFilled, linkFilled, cutView, cutArea, lengthened, areaAfter, alteredView, alteredArea, enactView, enactArea, startArea}
+use Rattle.book.specs.Enact.{areaSize, movedOn, relabelled, fixedAt, requotaed, freeRow, freeLink, rowFilled, linkFilled, cutView, cutArea, lengthened, areaAfter}
+use Rattle.book.specs.Enact.{alteredView, alteredArea, enactView, enactArea, startArea}
 use Rattle.book.specs.declared.Found.the-variants.{At}
 use Rattle.book.specs.Laws.First.{found-cases, first-hit}
 use Rattle.book.specs.Laws.Tie.{row-is, quota-at, code-live}

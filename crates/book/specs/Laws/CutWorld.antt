@@ -20,7 +20,8 @@ use Rattle.tables.specs.Layout.{View, rowCount, linkCount, blockCount, nextT, k
 use Rattle.rules.specs.Laws.Worlds.{world-ext}
 use Rattle.book.specs.declared.Found.{Found}
 use Rattle.book.specs.declared.Found.the-variants.{At}
-use Rattle.book.specs.Book.{nextOf, rootOf, idOf, codeOf, fixedOf, lenOf, markOf, fromOf, toOf, ownerOf, indexOf, blocksOf, first, onFound, isBlock, blockAt, placeOf, collect, bytesOf, kindFrom, objectAt, rowOf, worldOf, ofKind, standing}
+use Rattle.book.specs.Book.{nextOf, rootOf, idOf, codeOf, fixedOf, lenOf, markOf, fromOf, toOf, ownerOf, indexOf, blocksOf, first, onFound, isBlock, blockAt, placeOf}
+use Rattle.book.specs.Book.{collect, bytesOf, kindFrom, objectAt, rowOf, worldOf, ofKind, standing}
 use Rattle.book.specs.Sound.{Live, On, Used, Owned, Sound, timesHeld}
 use Rattle.book.specs.Placed.{Placed}
 use Rattle.book.specs.Shape.{Shape}
@@ -31,7 +32,6 @@ use Rattle.book.specs.Laws.Codes.{segment-from}
 use Rattle.book.specs.Laws.Tie.{row-is, row-none, obj-found, obj-missing, obj-none, obj-at, container-at, linked-at, linked-is, world-next, world-root}
 use Rattle.book.specs.Laws.WorldSound.{placed, world-sound}
 use Rattle.book.specs.Laws.SoundBy.{sound-by}
-use Rattle.book.specs.Laws.Worlds.{world-ext}
 use Rattle.book.specs.Laws.Shapes.{on-shape, put-shape}
 
 -- ---- a number that stays where a test holds, and else is 0

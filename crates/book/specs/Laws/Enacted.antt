@@ -24,7 +24,8 @@ use Rattle.book.specs.Laws.First.{on-at}
 use Rattle.book.specs.Laws.Tie.{row-found, world-next, live-row, thread-at, segment-at}
 use Rattle.book.specs.Laws.WorldSound.{placed, world-sound}
 use Rattle.book.specs.Laws.SoundBy.{sound-by}
-use Rattle.book.specs.Laws.Alter.{moved-placed, moved-shape, keep-world, relabelled-placed, relabelled-shape, relabelled-world, fixed-placed, fixed-shape, fixed-world, requotaed-placed, requotaed-shape, requotaed-world}
+use Rattle.book.specs.Laws.Alter.{moved-placed, moved-shape, keep-world, relabelled-placed, relabelled-shape, relabelled-world, fixed-placed, fixed-shape, fixed-world}
+use Rattle.book.specs.Laws.Alter.{requotaed-placed, requotaed-shape, requotaed-world}
 
 -- what a change leaves of a book and its data area
 pub record Enacted (h : Change) (v : View) (area : List ℕ) : Type 0 where

@@ -10,11 +10,10 @@ use Rattle.labels.specs.declared.Label.{Label}
 use Rattle.labels.specs.Core.{wordCount}
 use Rattle.rules.specs.Kernel.{Obj, kindCode, isThread, isGate, isSegment, isContainer, hasClearance, threadOf, gateOf, segmentOf, containerOf, textSize, plainObject}
 use Rattle.tables.specs.Layout.{View, rowCount, idT, kindT, maskT, fixedT, quotaT, lenT, entryT, labelDefaultT, labelWordsT, clearDefaultT, clearWordsT, descriptionT, closureT}
-use Rattle.book.specs.Book.{idOf, codeOf, maskOf, fixedOf, quotaOf, lenOf, entryOf, labelOf, clearanceOf, descriptionOf, closureOf, collect, placeOf, blockAt, bytesOf, kindFrom, objectAt, ofKind, standing}
+use Rattle.book.specs.Book.{idOf, codeOf, maskOf, fixedOf, quotaOf, lenOf, entryOf, labelOf, clearanceOf, descriptionOf, closureOf, collect, placeOf, blockAt, bytesOf}
+use Rattle.book.specs.Book.{kindFrom, objectAt, ofKind, standing}
 use Rattle.book.specs.Shape.{Shape}
 use Rattle.book.specs.Enact.{padded, relabelled, rowFilled}
-use Rattle.book.specs.Laws.Codes.{kind-from}
-use Rattle.book.specs.Laws.Worlds.{obj-ext, label-ext}
 use Rattle.labels.specs.Core.Same.{label-ext}
 use Rattle.rules.specs.Laws.Kinds.{kind-from}
 use Rattle.rules.specs.Laws.Worlds.{obj-ext}

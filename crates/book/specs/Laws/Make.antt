@@ -28,7 +28,8 @@ use Rattle.book.specs.Laws.Room.{spare-row-room, spare-link-room}
 use Rattle.book.specs.Laws.Shapes.{put-shape}
 use Rattle.book.specs.Laws.Alter.{moved-row, moved-object, moved-linked, moved-root, moved-next, moved-shape, moved-placed}
 use Rattle.book.specs.Laws.Places.{free-row-low, link-low}
-use Rattle.book.specs.Laws.Filled.{Fresh, filled-id-other, filled-code-other, filled-fixed-other, filled-len-other, filled-object-other, filled-id, filled-code, filled-fixed, filled-len, filled-object, filled-shape}
+use Rattle.book.specs.Laws.Filled.{Fresh, filled-id-other, filled-code-other, filled-fixed-other, filled-len-other, filled-object-other, filled-id, filled-code, filled-fixed}
+use Rattle.book.specs.Laws.Filled.{filled-len, filled-object, filled-shape}
 
 -- What is found is free.
 pub row-free : (v : View) (r : ℕ) → freeRow v ≡ At r → codeOf v r ≡ 0

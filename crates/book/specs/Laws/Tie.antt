@@ -18,7 +18,8 @@ use Rattle.rules.specs.Laws.Kinds.{nothing-dead}
 use Rattle.rules.specs.Laws.Usage.{use-container, use-segment, use-cleared}
 use Rattle.tables.specs.Layout.{View, rowCount, linkCount}
 use Rattle.book.specs.declared.Found.the-variants.{At, Nothing}
-use Rattle.book.specs.Book.{nextOf, rootOf, idOf, codeOf, maskOf, fixedOf, quotaOf, lenOf, entryOf, labelOf, clearanceOf, descriptionOf, closureOf, markOf, fromOf, toOf, liveRow, liveLink, kindFrom, bytesOf, objectAt, hasId, rowOf, isLink, worldOf, ThreadOrGate, isThreadOrGate}
+use Rattle.book.specs.Book.{nextOf, rootOf, idOf, codeOf, maskOf, fixedOf, quotaOf, lenOf, entryOf, labelOf, clearanceOf, descriptionOf, closureOf, markOf, fromOf, toOf}
+use Rattle.book.specs.Book.{liveRow, liveLink, kindFrom, bytesOf, objectAt, hasId, rowOf, isLink, worldOf, ThreadOrGate, isThreadOrGate}
 use Rattle.book.specs.Sound.{Live, On, linksTo, chargedTo}
 use Rattle.book.specs.Placed.{Placed}
 use Rattle.book.specs.Laws.First.{first-only, first-low, first-hit, first-none, first-nothing, found-cases, on-at, on-nothing, collect-length}

@@ -21,7 +21,10 @@ use Rattle.book.specs.Book.{nextOf, rootOf, idOf, codeOf, maskOf, fixedO
 use Rattle.book.specs.Sound.{Live, Sound}
 use Rattle.book.specs.Placed.{Placed}
 use Rattle.book.specs.Shape.{Shape}
-use Rattle.book.specs.Laws.Tie.{code-live, same-row, object-label, object-quota, object-description, object-gate, object-segment, object-container, object-cleared, object-clearance, object-fixed, object-bytes, object-mask, object-closure, object-unfixed, object-no-bytes, object-no-mask, bytes-length, world-next, world-root, live-row, obj-at, quota-at, live-at, container-at, linked-at, linked-is, use-container-at, use-segment-at, use-cleared-at, link-counted, link-there, link-same}
+use Rattle.book.specs.Laws.Tie.{code-live, same-row, object-label, object-quota, object-description, object-gate, object-segment, object-container, object-cleared}
+use Rattle.book.specs.Laws.Tie.{object-clearance, object-fixed, object-bytes, object-mask, object-closure, object-unfixed, object-no-bytes, object-no-mask, bytes-length}
+use Rattle.book.specs.Laws.Tie.{world-next, world-root, live-row, obj-at, quota-at, live-at, container-at, linked-at, linked-is, use-container-at, use-segment-at}
+use Rattle.book.specs.Laws.Tie.{use-cleared-at, link-counted, link-there, link-same}
 
 -- What of a book's soundness its world cannot see.
 pub placed : (v : View) → Sound v → Placed v

@@ -7,7 +7,10 @@ use lib.IntN.{pos, negsuc}
 use borrow.Author.Tests.{leb-true, not-true}
 use Rattle.labels.specs.declared.Label.{Label}
 use Rattle.labels.specs.Core.{flows, mayRead, mayWrite}
-use Rattle.rules.specs.Kernel.{World, Obj, isLive, relabel, fix, requota, rewrite, Change, keep, alter, create, cut, link, Verdict, grant, must, mustHold, Call, createCategory, setLabel, setClearance, createContainer, createSegment, createGate, createThread, unreference, linkSegment, fixQuota, moveQuota, read, write, resize, enterGate, look, call, judge, make, move, access, opens, entry, fits, spareOf, containerOf, segmentOf, gateOf, threadOf, Condition, holds, allHold, flow, reading, writing}
+use Rattle.rules.specs.Kernel.{World, Obj, isLive, relabel, fix, requota, rewrite, Change, keep, alter, create, cut, link, Verdict, grant, must, mustHold, Call}
+use Rattle.rules.specs.Kernel.{createCategory, setLabel, setClearance, createContainer, createSegment, createGate, createThread, unreference, linkSegment, fixQuota}
+use Rattle.rules.specs.Kernel.{moveQuota, read, write, resize, enterGate, look, call, judge, make, move, access, opens, entry, fits, spareOf, containerOf, segmentOf, gateOf}
+use Rattle.rules.specs.Kernel.{threadOf, Condition, holds, allHold, flow, reading, writing}
 use Rattle.rules.specs.Ledger.{Line, nothingWritten, made, tied, movedIn, movedBack, lineIf}
 use Rattle.rules.specs.Laws.Bools.{and-r, then-i}
 use Rattle.rules.specs.Laws.Kinds.{segment-live}

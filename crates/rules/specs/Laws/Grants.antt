@@ -13,7 +13,11 @@ use Rattle.labels.specs.declared.Label.{Label}
 use Rattle.labels.specs.Core.{wellFormed, flows, hasRoom, withPair, labelOf, labelSize, wordCount, star, level3}
 use Rattle.labels.specs.Core.Bytes.{labelOf-length}
 use Rattle.labels.specs.Core.Fresh.{formed-wider, pair-length}
-use Rattle.rules.specs.Kernel.{kindCode, isLive, isThread, isContainer, hasClearance, Obj, World, relabel, fix, Change, keep, alter, create, cut, link, Call, createCategory, setLabel, setClearance, createContainer, createSegment, createGate, createThread, unreference, linkSegment, fixQuota, moveQuota, read, write, resize, enterGate, look, Condition, holds, allHold, flow, writing, Verdict, grant, must, mustHold, opens, entry, fits, orDefault, make, move, access, containerOf, segmentOf, gateOf, threadOf, clearedAt, judge, useOf, spareOf, units, goodLabel, goodText, goodArguments, maxMask, maxLength, textSize, blockSize, maxBlock, segmentDefault, containerDefault}
+use Rattle.rules.specs.Kernel.{kindCode, isLive, isThread, isContainer, hasClearance, Obj, World, relabel, fix, Change, keep, alter, create, cut, link, Call, createCategory}
+use Rattle.rules.specs.Kernel.{setLabel, setClearance, createContainer, createSegment, createGate, createThread, unreference, linkSegment, fixQuota, moveQuota, read, write}
+use Rattle.rules.specs.Kernel.{resize, enterGate, look, Condition, holds, allHold, flow, writing, Verdict, grant, must, mustHold, opens, entry, fits, orDefault, make, move}
+use Rattle.rules.specs.Kernel.{access, containerOf, segmentOf, gateOf, threadOf, clearedAt, judge, useOf, spareOf, units, goodLabel, goodText, goodArguments, maxMask}
+use Rattle.rules.specs.Kernel.{maxLength, textSize, blockSize, maxBlock, segmentDefault, containerDefault}
 use Rattle.rules.specs.Sound.{Sound}
 use Rattle.rules.specs.Fair.{Whole, Fair}
 use Rattle.rules.specs.Laws.Bools.{and-l, and-r}

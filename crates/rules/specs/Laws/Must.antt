@@ -5,7 +5,8 @@ use mathlib.Core.Path.{_≡_, refl, subst}
 use mathlib.Core.List.{List, [], _∷_, _++_}
 use lib.Dec.{leb}
 use native.Mathlib.Omega.{arith}
-use Rattle.rules.specs.Kernel.{World, Call, Change, Refusal, by, numberOf, Verdict, refused, grant, unless, must, whyNot, mustHold, tests, call, judge, isThread, goodArguments, lastNumber, Condition, holds, allHold}
+use Rattle.rules.specs.Kernel.{World, Call, Change, Refusal, by, numberOf, Verdict, refused, grant, unless, must, whyNot, mustHold, tests, call, judge, isThread}
+use Rattle.rules.specs.Kernel.{goodArguments, lastNumber, Condition, holds, allHold}
 
 pub refuse-no-grant : (f : Refusal) (v : ℕ) (b : List ℕ) (h : Change) → refused f ≡ grant v b h → ⊥
 refuse-no-grant f v b h e = let z : _≡_ {A = ℕ} 0 1 = cc in omega arith

@@ -7,7 +7,10 @@ use lib.ListN.{take, drop}
 use lib.Bits.{bitOr}
 use lib.IntN.{pos, negsuc}
 use Rattle.labels.specs.Core.{withPair, labelOf, star}
-use Rattle.rules.specs.Kernel.{isSegment, entry, World, Obj, relabel, fix, requota, rewrite, Change, keep, alter, create, cut, link, Call, createCategory, setLabel, setClearance, createContainer, createSegment, createGate, createThread, unreference, linkSegment, fixQuota, moveQuota, read, write, resize, enterGate, look, Condition, Verdict, grant, must, mustHold, make, move, access, judge, call, containerOf, segmentOf, gateOf, threadOf, clearedAt, lookBytes, overwrite, resized, orDefault, segmentDefault, containerDefault, blockSize}
+use Rattle.rules.specs.Kernel.{isSegment, entry, World, Obj, relabel, fix, requota, rewrite, Change, keep, alter, create, cut, link, Call, createCategory, setLabel}
+use Rattle.rules.specs.Kernel.{setClearance, createContainer, createSegment, createGate, createThread, unreference, linkSegment, fixQuota, moveQuota, read, write, resize}
+use Rattle.rules.specs.Kernel.{enterGate, look, Condition, Verdict, grant, must, mustHold, make, move, access, judge, call, containerOf, segmentOf, gateOf, threadOf}
+use Rattle.rules.specs.Kernel.{clearedAt, lookBytes, overwrite, resized, orDefault, segmentDefault, containerDefault, blockSize}
 use Rattle.rules.specs.Laws.Must.{must-test, must-rest, hold-rest, passed}
 
 -- what is granted after the last test

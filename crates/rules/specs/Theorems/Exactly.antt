@@ -7,7 +7,10 @@ use mathlib.Core.List.{List}
 use lib.Dec.{leb}
 use lib.IntN.{pos, negsuc}
 use borrow.Author.Tests.{le-leb}
-use Rattle.rules.specs.Kernel.{World, Obj, isContainer, isSegment, units, spareOf, Refusal, by, numberOf, Verdict, grant, unless, must, whyNot, mustHold, Change, Call, createCategory, setLabel, setClearance, createContainer, createSegment, createGate, createThread, unreference, linkSegment, fixQuota, moveQuota, read, write, resize, enterGate, look, call, tests, judge, make, move, access, opens, entry, fits, containerOf, segmentOf, gateOf, threadOf, answerOf, Condition, allHold, History, worldAfter}
+use Rattle.rules.specs.Kernel.{World, Obj, isContainer, isSegment, units, spareOf, Refusal, by, numberOf, Verdict, grant, unless, must, whyNot, mustHold, Change, Call}
+use Rattle.rules.specs.Kernel.{createCategory, setLabel, setClearance, createContainer, createSegment, createGate, createThread, unreference, linkSegment, fixQuota}
+use Rattle.rules.specs.Kernel.{moveQuota, read, write, resize, enterGate, look, call, tests, judge, make, move, access, opens, entry, fits, containerOf, segmentOf, gateOf}
+use Rattle.rules.specs.Kernel.{threadOf, answerOf, Condition, allHold, History, worldAfter}
 use Rattle.rules.specs.Histories.{WellStarted}
 use Rattle.rules.specs.Ledger.{Line, made, tied, movedIn, movedBack, lineIf, takesUnits, askedOf, unitsAsked, spends, draws, needs, refusedEarlier, reckoned}
 use Rattle.rules.specs.Laws.Bools.{and-r, and-i, not-both}

@@ -8,7 +8,10 @@ use native.Mathlib.Omega.{arith}
 use lib.Dec.{eqb, leb}
 use lib.IntN.{pos, negsuc}
 use borrow.Author.Tests.{eqb-true, leb-true, leb-false, lt-leb}
-use Rattle.rules.specs.Kernel.{Obj, World, Call, createCategory, setLabel, setClearance, createContainer, createSegment, createGate, createThread, unreference, linkSegment, fixQuota, moveQuota, read, write, resize, enterGate, look, Change, keep, alter, create, cut, link, apply, Condition, allHold, Refusal, by, numberOf, Verdict, refused, grant, unless, must, whyNot, mustHold, make, move, access, goodArguments, judge, tests, call, answerOf, valueOf, outputOf, leaves, after, lastNumber}
+use Rattle.rules.specs.Kernel.{Obj, World, Call, createCategory, setLabel, setClearance, createContainer, createSegment, createGate, createThread, unreference, linkSegment}
+use Rattle.rules.specs.Kernel.{fixQuota, moveQuota, read, write, resize, enterGate, look, Change, keep, alter, create, cut, link, apply, Condition, allHold, Refusal, by}
+use Rattle.rules.specs.Kernel.{numberOf, Verdict, refused, grant, unless, must, whyNot, mustHold, make, move, access, goodArguments, judge, tests, call, answerOf, valueOf}
+use Rattle.rules.specs.Kernel.{outputOf, leaves, after, lastNumber}
 use Rattle.rules.specs.Answers.{oneOf, numbersOf, NumberTaken, Granted}
 use Rattle.rules.specs.Laws.Must.{why-seven}
 use Rattle.rules.specs.Laws.Bools.{or-cases, or-i-r, then-l, then-r}

@@ -4,7 +4,9 @@ use mathlib.Core.Bool.{Bool, true, false, _&&_, false≢true, and-true}
 use mathlib.Core.Path.{_≡_, refl, sym, _∙_}
 use lib.Dec.{leb}
 use lib.IntN.{pos, negsuc}
-use Rattle.rules.specs.Kernel.{Obj, World, opens, entry, Verdict, refuse, unless, must, make, move, access, judge, tests, call, isThread, goodArguments, lastNumber, Call, createCategory, setLabel, setClearance, createContainer, createSegment, createGate, createThread, unreference, linkSegment, fixQuota, moveQuota, read, write, resize, enterGate, look}
+use Rattle.rules.specs.Kernel.{Obj, World, opens, entry, Verdict, refuse, unless, must, make, move, access, judge, tests, call, isThread, goodArguments, lastNumber, Call}
+use Rattle.rules.specs.Kernel.{createCategory, setLabel, setClearance, createContainer, createSegment, createGate, createThread, unreference, linkSegment, fixQuota}
+use Rattle.rules.specs.Kernel.{moveQuota, read, write, resize, enterGate, look}
 use Rattle.rules.specs.Named.{containersNamed, allOpen}
 
 module _ (w : World) (t : Obj) where

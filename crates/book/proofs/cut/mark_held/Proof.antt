@@ -40,14 +40,4 @@ returns c = held-end (view (c .before .before .before .before .args .b .now)) (c
 
 pub mark-held-spec : {M : Type 1} → statement M
 mark-held-spec =
-    tie.close
-    (tie.spec
-    Inv-loop
-    μ-loop
-    loop-holds
-    mark-end-requires
-    add-l
-    loop-less
-    loop-again
-    same-length
-    returns)
+    tie.close (tie.spec Inv-loop μ-loop loop-holds mark-end-requires add-l loop-less loop-again same-length returns)

@@ -58,15 +58,4 @@ returns c =
 
 pub sweep-blocks-spec : {M : Type 1} → statement M
 sweep-blocks-spec =
-    tie.close
-    (tie.spec
-    Inv-loop
-    μ-loop
-    loop-holds
-    drop-block-requires
-    add-i
-    loop-less
-    loop-again
-    same-length
-    same-length-2
-    returns)
+    tie.close (tie.spec Inv-loop μ-loop loop-holds drop-block-requires add-i loop-less loop-again same-length same-length-2 returns)

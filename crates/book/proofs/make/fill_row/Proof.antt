@@ -8,18 +8,6 @@ use borrow.Author.Needs.{needs}
 use Rattle.book.proofs.make.fill_row.Statement.{statement}
 use Rattle.book.proofs.make.fill_row.Tie as tie
 
-fill-numbers-requires : tie.Need-fill-numbers-requires
-fill-numbers-requires c κs = search needs
-
-relabel-requires : tie.Need-relabel-requires
-relabel-requires c κs = search needs
-
-fill-texts-requires : tie.Need-fill-texts-requires
-fill-texts-requires c κs = search needs
-
-same-length : tie.Need-same-length
-same-length c = search needs
-
 returns : tie.Need-returns
 returns c =
     let t = c .before .before in
@@ -35,4 +23,4 @@ returns c =
 pub fill-row-spec : {M : Type 1} → statement M
 fill-row-spec =
     tie.close
-    (tie.spec fill-numbers-requires relabel-requires fill-texts-requires same-length returns)
+    (tie.spec (λ c κs. search needs) (λ c κs. search needs) (λ c κs. search needs) (λ c. search needs) returns)

@@ -48,14 +48,4 @@ returns-2 c =
 
 pub link-new-spec : {M : Type 1} → statement M
 link-new-spec =
-    tie.close
-    (tie.spec
-    Inv-loop
-    μ-loop
-    loop-holds
-    same-requires
-    returns
-    add-i
-    loop-less
-    loop-again
-    returns-2)
+    tie.close (tie.spec Inv-loop μ-loop loop-holds same-requires returns add-i loop-less loop-again returns-2)

@@ -49,14 +49,4 @@ returns-2 c =
 
 pub each-ok-spec : {M : Type 1} → statement M
 each-ok-spec =
-    tie.close
-    (tie.spec
-    Inv-loop
-    μ-loop
-    loop-holds
-    row-ok-requires
-    returns
-    add-i
-    loop-less
-    loop-again
-    returns-2)
+    tie.close (tie.spec Inv-loop μ-loop loop-holds row-ok-requires returns add-i loop-less loop-again returns-2)

@@ -49,14 +49,4 @@ returns-2 c =
 
 pub id-absent-spec : {M : Type 1} → statement M
 id-absent-spec =
-    tie.close
-    (tie.spec
-    Inv-loop
-    μ-loop
-    loop-holds
-    has-id-requires
-    returns
-    add-i
-    loop-less
-    loop-again
-    returns-2)
+    tie.close (tie.spec Inv-loop μ-loop loop-holds has-id-requires returns add-i loop-less loop-again returns-2)

@@ -37,14 +37,4 @@ returns c = (charged-all (view (c .before .before .before .args .b .now)) (c .be
 
 pub charged-spec : {M : Type 1} → statement M
 charged-spec =
-    tie.close
-    (tie.spec
-    Inv-loop
-    μ-loop
-    loop-holds
-    charge-requires
-    add-sum
-    add-i
-    loop-less
-    loop-again
-    returns)
+    tie.close (tie.spec Inv-loop μ-loop loop-holds charge-requires add-sum add-i loop-less loop-again returns)
