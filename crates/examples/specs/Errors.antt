@@ -159,5 +159,10 @@ days =
 
 -- every call of these histories says what is written beside it
 pub easy-errors : played days ≡ written days
-unfolding days existence existence-said unnamed unnamed-said numbers numbers-said cleared cleared-said charged-twice charged-twice-said masked masked-said ownership ownership-said one two secret owner clearance run played written wordsFor lent zeros32 start call after tests judge unless must whyNot mustHold opens entry make move access forbids fits spareOf useOf charged units answerOf valueOf outputOf leaves apply put linkIn under below stays kept edit goodArguments goodLabel goodText holds allHold flow reading writing floorFlow flowJoin flowJoinHigh containerOf segmentOf gateOf threadOf clearedAt lookBytes overwrite resized orDefault kindCode isLive isThread isGate isSegment isContainer hasClearance blank nothing Σ when any both either leAt leBytes levelAt everyNamed holdsB compareB zerosB wordsB formedB insertW roomB wordsAt labelOf wordsBytes labelBytes
+unfolding days existence existence-said unnamed unnamed-said numbers numbers-said cleared cleared-said charged-twice charged-twice-said masked masked-said ownership
+    ownership-said one two secret owner clearance run played written wordsFor lent zeros32 start call after tests judge unless must whyNot mustHold opens entry make move
+    access forbids fits spareOf useOf charged units answerOf valueOf outputOf leaves apply put linkIn under below stays kept edit goodArguments goodLabel goodText holds
+    allHold flow reading writing floorFlow flowJoin flowJoinHigh containerOf segmentOf gateOf threadOf clearedAt lookBytes overwrite resized orDefault kindCode isLive
+    isThread isGate isSegment isContainer hasClearance blank nothing Σ when any both either leAt leBytes levelAt everyNamed holdsB compareB zerosB wordsB formedB insertW
+    roomB wordsAt labelOf wordsBytes labelBytes
 easy-errors = refl

@@ -68,5 +68,9 @@ pub days : List Day
 days = day 100 turns printed ∷ []
 
 pub grantday : played days ≡ written days
-unfolding days turns printed plain1 plain2 tainted run played written wordsFor lent zeros32 start call after tests judge unless must whyNot mustHold opens entry make move access forbids fits spareOf useOf charged units answerOf valueOf outputOf leaves apply put linkIn under below stays kept edit goodArguments goodLabel goodText holds allHold flow reading writing floorFlow flowJoin flowJoinHigh containerOf segmentOf gateOf threadOf clearedAt lookBytes overwrite resized orDefault kindCode isLive isThread isGate isSegment isContainer hasClearance blank nothing Σ when any both either leAt leBytes levelAt everyNamed holdsB compareB zerosB wordsB formedB insertW roomB wordsAt labelOf wordsBytes labelBytes
+unfolding days turns printed plain1 plain2 tainted run played written wordsFor lent zeros32 start call after tests judge unless must whyNot mustHold opens entry make move
+    access forbids fits spareOf useOf charged units answerOf valueOf outputOf leaves apply put linkIn under below stays kept edit goodArguments goodLabel goodText holds
+    allHold flow reading writing floorFlow flowJoin flowJoinHigh containerOf segmentOf gateOf threadOf clearedAt lookBytes overwrite resized orDefault kindCode isLive
+    isThread isGate isSegment isContainer hasClearance blank nothing Σ when any both either leAt leBytes levelAt everyNamed holdsB compareB zerosB wordsB formedB insertW
+    roomB wordsAt labelOf wordsBytes labelBytes
 grantday = refl

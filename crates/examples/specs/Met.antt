@@ -162,7 +162,12 @@ pub record OfTheDay : Type 0 where
   pub no-segment : any (worldAfter gone .next) (λ o. isSegment ((worldAfter gone .obj o) .kind)) ≡ false
 
 pub of-the-day : OfTheDay
-unfolding wholeDay filled oneMore gone noted crowding fill granting grown morning room list reckoned granted grantedBy charge chargeBy lineIf lineOf lastWritten leftBy holdOf one two tainted wordsFor lent zeros32 worldAfter start call after tests judge unless must whyNot mustHold opens entry make move access forbids fits spareOf useOf charged units answerOf leaves apply put linkIn under below stays kept edit goodArguments goodLabel goodText holds allHold flow reading writing floorFlow flowJoin flowJoinHigh containerOf segmentOf gateOf threadOf clearedAt overwrite resized orDefault kindCode isLive isThread isGate isSegment isContainer hasClearance blank nothing Σ when any both either leAt leBytes levelAt everyNamed holdsB compareB zerosB wordsB formedB insertW roomB wordsAt labelOf wordsBytes labelBytes refusedEarlier bytesB
+unfolding wholeDay filled oneMore gone noted crowding fill granting grown morning room list reckoned granted grantedBy charge chargeBy lineIf lineOf lastWritten leftBy
+    holdOf one two tainted wordsFor lent zeros32 worldAfter start call after tests judge unless must whyNot mustHold opens entry make move access forbids fits spareOf
+    useOf charged units answerOf leaves apply put linkIn under below stays kept edit goodArguments goodLabel goodText holds allHold flow reading writing floorFlow
+    flowJoin flowJoinHigh containerOf segmentOf gateOf threadOf clearedAt overwrite resized orDefault kindCode isLive isThread isGate isSegment isContainer hasClearance
+    blank nothing Σ when any both either leAt leBytes levelAt everyNamed holdsB compareB zerosB wordsB formedB insertW roomB wordsAt labelOf wordsBytes labelBytes
+    refusedEarlier bytesB
 of-the-day =
     record {
       is-container = refl;
@@ -190,7 +195,11 @@ of-the-day =
     }
 
 pub met : Met
-unfolding granting grown morning room list crowding fill takeBack reckoned granted grantedBy charge chargeBy lineIf lineOf refusedEarlier writer one two tainted wordsFor lent zeros32 worldAfter start call after tests judge unless must whyNot mustHold opens entry make move access forbids fits spareOf useOf charged units answerOf leaves apply put linkIn under below stays kept edit goodArguments goodLabel goodText holds allHold flow reading writing floorFlow flowJoin flowJoinHigh containerOf segmentOf gateOf threadOf clearedAt overwrite resized orDefault kindCode isLive isThread isGate isSegment isContainer hasClearance blank nothing Σ when any both either leAt leBytes levelAt everyNamed holdsB compareB zerosB wordsB formedB insertW roomB wordsAt labelOf wordsBytes labelBytes
+unfolding granting grown morning room list crowding fill takeBack reckoned granted grantedBy charge chargeBy lineIf lineOf refusedEarlier writer one two tainted wordsFor
+    lent zeros32 worldAfter start call after tests judge unless must whyNot mustHold opens entry make move access forbids fits spareOf useOf charged units answerOf leaves
+    apply put linkIn under below stays kept edit goodArguments goodLabel goodText holds allHold flow reading writing floorFlow flowJoin flowJoinHigh containerOf segmentOf
+    gateOf threadOf clearedAt overwrite resized orDefault kindCode isLive isThread isGate isSegment isContainer hasClearance blank nothing Σ when any both either leAt
+    leBytes levelAt everyNamed holdsB compareB zerosB wordsB formedB insertW roomB wordsAt labelOf wordsBytes labelBytes
 met =
     record {
       room = refl;

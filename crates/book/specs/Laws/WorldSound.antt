@@ -183,7 +183,8 @@ module _ (v : View) (area : List ℕ) (s : Sound v) where
       let (l, on, e, f) = linked-is v area d o h in
       let to = p .to-live l on in
       let from = p .from-live l on in
-      let c : codeOf v (toOf v l) ≡ containerCode = eqb-true (codeOf v (toOf v l)) containerCode (sym (container-at v area p (toOf v l) to) ∙ ap (λ (i : ℕ). isContainer (((worldOf v area) .obj i) .kind)) f ∙ k) in
+      let c : codeOf v (toOf v l) ≡ containerCode = eqb-true (codeOf v (toOf v l)) containerCode
+      (sym (container-at v area p (toOf v l) to) ∙ ap (λ (i : ℕ). isContainer (((worldOf v area) .obj i) .kind)) f ∙ k) in
       let mo : ((worldOf v area) .obj o) .mask ≡ maskOf v (toOf v l) =
       ap (λ (i : ℕ). ((worldOf v area) .obj i) .mask) (sym f) ∙ ap (λ (z : Obj). z .mask) (obj-at v area p (toOf v l) to) ∙ object-mask v area (toOf v l) c in
       let md : ((worldOf v area) .obj d) .mask ≡ maskOf v (fromOf v l) =

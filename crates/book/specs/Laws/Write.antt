@@ -157,7 +157,8 @@ module _ (v : View) (p : Placed v) (r : ℕ) (a : Live v r) (c : codeOf v r ≡ 
             → blockSize * k + f ≤ spot v j → spot v j < blockSize * k + f + length b → ⊥
         not-written j s x y =
             no-both (leb (blockSize * k + f) (spot v j) && ltb (spot v j) (blockSize * k + f + length b))
-            (and-i (leb (blockSize * k + f) (spot v j)) (ltb (spot v j) (blockSize * k + f + length b)) (le-leb (blockSize * k + f) (spot v j) x) (lt-ltb (spot v j) (blockSize * k + f + length b) y)) s
+            (and-i (leb (blockSize * k + f) (spot v j)) (ltb (spot v j) (blockSize * k + f + length b)) (le-leb (blockSize * k + f) (spot v j) x)
+            (lt-ltb (spot v j) (blockSize * k + f + length b) y)) s
 
     -- Bytes put into the area are what the change asks of it,
     pub write-same : sets area (blockSize * blockAt v r k + f) b ≡ areaAfter v v r (overwrite (blockSize * k + f) b (bytesOf v area r)) area

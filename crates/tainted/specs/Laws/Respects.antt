@@ -97,7 +97,13 @@ module _ {v : ℕ} {w : World} {c : ℕ} where
 
     pub found : (d o : ℕ) → entry w (w .obj c) d o ≡ true → Found v w c o
     found d o p =
-        record { from = d; is-container = opens-container w (w .obj c) d (entry-opens w (w .obj c) d o p); is-linked = entry-link w (w .obj c) d o p; level = opens-level d (entry-opens w (w .obj c) d o p) }
+        record {
+          from = d;
+          is-container = opens-container w (w .obj c) d (entry-opens w (w .obj c) d o p);
+          is-linked = entry-link w (w .obj c) d o p;
+          level = opens-level d
+              (entry-opens w (w .obj c) d o p);
+        }
 
     -- the caller's label flows to x, a condition after those of writing d
     pub not-below : (d : ℕ) (x : Obj) (more : List Condition)

@@ -23,7 +23,13 @@ loop-holds c =
     (omega arith, refl, refl, dropped-none (a .r) (a .k) v (tabOf-long (a .b .now) ownerT), wiped-none (a .r) (a .k) v (a .area .now) (c .before .before .pre .1))
 
 drop-block-requires : tie.Need-drop-block-requires Inv-loop μ-loop
-drop-block-requires c κs = (c .before .before .before .loop .inv .1 ∙ c .before .before .before .before .before .before .pre .0, c .before .before .before .loop .inv .2 ∙ c .before .before .before .before .before .before .pre .1, c .before .before .before .before .before .before .pre .2, omega arith)
+drop-block-requires c κs = (
+  c .before .before .before .loop .inv .1 ∙ c .before .before .before .before .before .before .pre .0,
+  c .before .before .before .loop .inv .2
+      ∙ c .before .before .before .before .before .before .pre .1,
+  c .before .before .before .before .before .before .pre .2,
+  omega arith,
+)
 
 add-x : tie.Need-add-x Inv-loop μ-loop
 add-x c = omega arith

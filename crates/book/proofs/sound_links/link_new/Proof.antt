@@ -25,7 +25,8 @@ same-requires c κs = search needs
 returns : tie.Need-returns Inv-loop μ-loop
 returns c =
     let s = c .before .before .before .before .before in
-    sym (every-fails (s .args .l) (λ m. not (sameB (view (s .args .b .now)) (s .args .l) m)) (c .before .before .before .loop .i) (c .before .before .loop-test .taken) (ap not (sym (c .before .same .ensures) ∙ c .if1 .taken)))
+    sym (every-fails (s .args .l) (λ m. not (sameB (view (s .args .b .now)) (s .args .l) m)) (c .before .before .before .loop .i) (c .before .before .loop-test .taken)
+    (ap not (sym (c .before .same .ensures) ∙ c .if1 .taken)))
 
 add-i : tie.Need-add-i Inv-loop μ-loop
 add-i c = omega arith

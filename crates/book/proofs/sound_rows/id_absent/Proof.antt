@@ -26,7 +26,8 @@ has-id-requires c κs = search needs
 returns : tie.Need-returns Inv-loop μ-loop
 returns c =
     let s = c .before .before .before .before .before in
-    sym (every-fails (s .args .n) (λ r. not (hasId (view (s .args .b .now)) (s .args .id) r)) (c .before .before .before .loop .i) (c .before .before .loop-test .taken) (ap not (sym (c .before .has-id .ensures) ∙ c .if1 .taken)))
+    sym (every-fails (s .args .n) (λ r. not (hasId (view (s .args .b .now)) (s .args .id) r)) (c .before .before .before .loop .i) (c .before .before .loop-test .taken)
+    (ap not (sym (c .before .has-id .ensures) ∙ c .if1 .taken)))
 
 add-i : tie.Need-add-i Inv-loop μ-loop
 add-i c = omega arith
