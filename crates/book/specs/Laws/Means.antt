@@ -87,7 +87,15 @@ module _ (v : View) where
       rw (
         le-leb (nextOf v) (suc lastNumber) (s .next-most),
         every-by rowCount (rowB v) (λ r low. row-by v r low (λ live.
-            record { range = s .ranges r live; id-from = s .ids-from r live; id-below = s .ids-below r live; id-new = λ t w l. s .ids-apart r t live w l; label = s .labels r live; clearance = s .clearances r live; flow = s .flow r live })),
+            record {
+              range = s .ranges r live;
+              id-from = s .ids-from r live;
+              id-below = s .ids-below r live;
+              id-new = λ t w l. s .ids-apart r t live w l;
+              label = s .labels r live;
+              clearance = s .clearances r live;
+              flow = s .flow r live;
+            })),
         every-by linkCount (linkB v) (λ l low. link-by v l low (λ on. (s .ends l on, s .masks l on))),
         every-by rowCount (λ r. tieB v r (linksTo v r) (chargedTo v r)) (λ r low. tie-by v r (linksTo v r) (chargedTo v r) low (λ live. (
           record {

@@ -27,7 +27,16 @@ returns-3 : tie.Need-returns-3
 unfolding tieB
 returns-3 c =
     let up8 = c .before .before .before .before .before .before .before .before in
-    rw (← up8 .before .get8 .ensures, ne-eqb _ _ (up8 .if1 .left), ← c .before .before .before .before .before .before .before .get16 .ensures, ← c .before .before .before .before .before .before .get64 .ensures, ← c .before .before .before .before .before .root .ensures, ← c .before .before .before .before .get82 .ensures, sym (c .before .before .before .tied .ensures) ∙ not-false _ (c .before .before .if2 .left), ← c .before .get162 .ensures) (c .fits2 .ensures)
+    rw (
+      ← up8 .before .get8 .ensures,
+      ne-eqb _ _ (up8 .if1 .left),
+      ← c .before .before .before .before .before .before .before .get16 .ensures,
+      ← c .before .before .before .before .before .before .get64 .ensures,
+      ← c .before .before .before .before .before .root .ensures,
+      ← c .before .before .before .before .get82 .ensures,
+      sym (c .before .before .before .tied .ensures) ∙ not-false _ (c .before .before .if2 .left),
+      ← c .before .get162 .ensures,
+    ) (c .fits2 .ensures)
 
 pub tie-ok-spec : {M : Type 1} → statement M
 tie-ok-spec =

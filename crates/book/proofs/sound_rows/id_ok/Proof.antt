@@ -14,8 +14,12 @@ unfolding idB
 returns-2 c = (rw (← c .before .before .before .get64 .ensures, le-leb _ _ (c .before .before .if1 .left), ← c .before .next .ensures, le-ltb _ _ (c .if2 .taken)), λ e. absurd (no-true e))
 
 id-new-requires : tie.Need-id-new-requires
-id-new-requires c κs =
-    (c .before .before .before .before .before .before .pre .0, c .before .before .before .before .before .before .pre .1, c .before .before .before .before .get64 .ensures, c .before .before .before .before .before .before .pre .2)
+id-new-requires c κs = (
+  c .before .before .before .before .before .before .pre .0,
+  c .before .before .before .before .before .before .pre .1,
+  c .before .before .before .before .get64 .ensures,
+  c .before .before .before .before .before .before .pre .2,
+)
 
 returns-3 : tie.Need-returns-3
 unfolding idB

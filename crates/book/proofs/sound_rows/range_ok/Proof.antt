@@ -6,7 +6,13 @@ use Rattle.book.proofs.sound_rows.range_ok.Tie as tie
 returns : tie.Need-returns
 unfolding rangeB
 returns c =
-    rw (← c .before .before .before .before .before .get8 .ensures, ← c .before .before .before .before .get16 .ensures, ← c .before .before .before .get162 .ensures, ← c .before .before .get82 .ensures, ← c .before .get83 .ensures) (c .range .ensures)
+    rw (
+      ← c .before .before .before .before .before .get8 .ensures,
+      ← c .before .before .before .before .get16 .ensures,
+      ← c .before .before .before .get162 .ensures,
+      ← c .before .before .get82 .ensures,
+      ← c .before .get83 .ensures,
+    ) (c .range .ensures)
 
 pub range-ok-spec : {M : Type 1} → statement M
 range-ok-spec =
