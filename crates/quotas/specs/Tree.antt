@@ -107,7 +107,8 @@ module _ (v : View) (n m root : ℕ) (s : Sound v n m root) (S : ℕ → Bool) (
     when-false (eqb c d) (g c) (ne-eqb c d (λ q. no-both (S c) (subst (λ (k : ℕ). S k ≡ true) (sym q) (p .top)) e)),
     sum-none m (λ l. when (eqb (v .obj l) c) (inner v S g l))
         (λ l h. when-none (eqb (v .obj l) c) (inner v S g l) (λ q. when-none (v .on l) _
-        (λ on. when-none (S (v .par l)) _ (λ ins. when-none (v .con (v .obj l)) _ (λ isC. absurd (no-both (S c) (subst (λ (k : ℕ). S k ≡ true) (eqb-true (v .obj l) c q) (p .down l h on ins isC)) e)))))),
+        (λ on. when-none (S (v .par l)) _ (λ ins. when-none (v .con (v .obj l)) _ (λ isC.
+        absurd (no-both (S c) (subst (λ (k : ℕ). S k ≡ true) (eqb-true (v .obj l) c q) (p .down l h on ins isC)) e)))))),
   )
 
   row-top : (c : ℕ) → c ≡ d → when (S c) (g c) ≡ at-row c
