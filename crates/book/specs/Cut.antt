@@ -9,11 +9,11 @@ use lib.ListN.{length, getD, set}
 use lib.Dec.{eqb}
 use Rattle.quotas.specs.Any.{any, both, either}
 use Rattle.rules.specs.Kernel.{containerCode, blockSize, lastNumber, Change, cut}
-use Rattle.tables.specs.Layout.{View, view, size, rowCount, linkCount, blockCount, onTab, putT}
+use Rattle.tables.specs.Layout.{View, view, size, rowCount, linkCount, blockCount, kindT, linkFromT, ownerT, onTab, putT}
 use Rattle.book.specs.Book.{nextOf, rootOf, idOf, codeOf, markOf, fromOf, toOf, ownerOf, liveLink, collect}
 use Rattle.book.specs.Sound.{On, Used, Sound}
 use Rattle.book.specs.Resize.{blockCleared}
-use Rattle.book.specs.Enact.{kindT, linkFromT, ownerT, areaSize, cutView, cutArea}
+use Rattle.book.specs.Enact.{areaSize, cutView, cutArea}
 
 -- the change that link l's cut is
 abbrev pub cutAt : View → ℕ → Change

@@ -11,72 +11,14 @@ use Rattle.labels.specs.declared.Label.{Label}
 use Rattle.labels.specs.Core.{wordCount}
 use Rattle.quotas.specs.Any.{both}
 use Rattle.rules.specs.Kernel.{Obj, kindCode, Edit, relabel, fix, requota, rewrite, Change, keep, alter, create, cut, link, stays, kept, blockSize, textSize, start}
-use Rattle.tables.specs.Layout.{View, rowCount, linkCount, blockCount, empty, onTab, putT, runT}
+use Rattle.tables.specs.Layout.{View, rowCount, linkCount, blockCount, nextT, rootT, idT, kindT, maskT, fixedT, quotaT, lenT, entryT, labelDefaultT, labelWordsT, clearDefaultT}
+use Rattle.tables.specs.Layout.{clearWordsT, descriptionT, closureT, linkFromT, linkToT, ownerT, indexT, empty, onTab, putT, runT}
 use Rattle.book.specs.Book.{nextOf, idOf, codeOf, lenOf, markOf, toOf, ownerOf, indexOf, blocksOf, first, onFound, rowOf, collect, worldOf}
 use Rattle.book.specs.declared.Found.{Found}
 
 -- RULES 1.8: ".. the data area, 16,384 bytes in 256 blocks of 64."
 abbrev pub areaSize : ℕ
 areaSize = blockCount * blockSize
-
--- ---- the tables by number, in the order of the layout
-
-abbrev pub nextT : ℕ
-nextT = 0
-
-abbrev pub rootT : ℕ
-rootT = 1
-
-abbrev pub idT : ℕ
-idT = 2
-
-abbrev pub kindT : ℕ
-kindT = 3
-
-abbrev pub maskT : ℕ
-maskT = 4
-
-abbrev pub fixedT : ℕ
-fixedT = 5
-
-abbrev pub quotaT : ℕ
-quotaT = 6
-
-abbrev pub lenT : ℕ
-lenT = 7
-
-abbrev pub entryT : ℕ
-entryT = 8
-
-abbrev pub labelDefaultT : ℕ
-labelDefaultT = 9
-
-abbrev pub labelWordsT : ℕ
-labelWordsT = 10
-
-abbrev pub clearDefaultT : ℕ
-clearDefaultT = 11
-
-abbrev pub clearWordsT : ℕ
-clearWordsT = 12
-
-abbrev pub descriptionT : ℕ
-descriptionT = 13
-
-abbrev pub closureT : ℕ
-closureT = 14
-
-abbrev pub linkFromT : ℕ
-linkFromT = 15
-
-abbrev pub linkToT : ℕ
-linkToT = 16
-
-abbrev pub ownerT : ℕ
-ownerT = 17
-
-abbrev pub indexT : ℕ
-indexT = 18
 
 -- ---- one row
 

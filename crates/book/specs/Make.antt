@@ -5,13 +5,13 @@ use mathlib.Core.Path.{_≡_}
 use mathlib.Core.List.{List}
 use lib.ListN.{length, replicate}
 use Rattle.labels.specs.Core.{wordCount, plain, level1, level2}
-use Rattle.rules.specs.Kernel.{threadCode, containerCode, Obj, kindCode, plainObject, textSize, lastNumber, rootQuota}
-use Rattle.tables.specs.Layout.{View, rowCount, size, view, empty, putT}
+use Rattle.rules.specs.Kernel.{threadCode, containerCode, Obj, kindCode, textSize, lastNumber, rootQuota, plainObject}
+use Rattle.tables.specs.Layout.{View, rowCount, size, view, nextT, rootT, idT, kindT, maskT, fixedT, quotaT, lenT, entryT, empty, putT}
 use Rattle.book.specs.declared.Found.{Found}
 use Rattle.book.specs.declared.Found.the-variants.{At, Nothing}
 use Rattle.book.specs.declared.make.NewRow.{NewRow}
 use Rattle.book.specs.Book.{nextOf, onFound, kindFrom, ofKind}
-use Rattle.book.specs.Enact.{nextT, rootT, idT, kindT, maskT, fixedT, quotaT, lenT, entryT, movedOn, padded, freeRow, freeLink, rowFilled, linkFilled}
+use Rattle.book.specs.Enact.{movedOn, padded, freeRow, freeLink, rowFilled, linkFilled}
 
 -- ---- the object that a new row is
 

@@ -6,9 +6,9 @@ use lib.ListN.{length, getD}
 use lib.Dec.{eqb, leb, ltb}
 use Rattle.quotas.specs.Any.{both}
 use Rattle.rules.specs.Kernel.{blockSize}
-use Rattle.tables.specs.Layout.{View, blockCount, onTab, putT}
+use Rattle.tables.specs.Layout.{View, blockCount, ownerT, onTab, putT}
 use Rattle.book.specs.Book.{lenOf, ownerOf, indexOf, blocksOf, isBlock, first, onFound, collect}
-use Rattle.book.specs.Enact.{areaSize, ownerT, freeBlock, blockAdded, blocksDropped}
+use Rattle.book.specs.Enact.{areaSize, freeBlock, blockAdded, blocksDropped}
 
 -- the bytes from `from` to before `to` are 0
 unfoldable pub cleared : ℕ → ℕ → List ℕ → List ℕ

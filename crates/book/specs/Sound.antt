@@ -8,7 +8,8 @@ use Rattle.labels.specs.Core.{wellFormed, flows}
 use Rattle.quotas.specs.Sum.{Σ, when}
 use Rattle.rules.specs.Kernel.{segmentCode, containerCode, maxCode, lastNumber, rootQuota, maxMask, maxLength, units}
 use Rattle.tables.specs.Layout.{View, rowCount, linkCount, blockCount}
-use Rattle.book.specs.Book.{nextOf, rootOf, idOf, codeOf, maskOf, fixedOf, quotaOf, lenOf, labelOf, clearanceOf, markOf, fromOf, toOf, ownerOf, indexOf, liveLink, blocksOf, isBlock, ThreadOrGate, isThreadOrGate}
+use Rattle.book.specs.Book.{nextOf, rootOf, idOf, codeOf, maskOf, fixedOf, quotaOf, lenOf, labelOf, clearanceOf, markOf, fromOf, toOf, ownerOf, indexOf, liveLink, blocksOf}
+use Rattle.book.specs.Book.{isBlock, ThreadOrGate, isThreadOrGate}
 
 -- ---- what is in use
 

@@ -55,7 +55,8 @@ maskN mask code inner = cond (eqb code containerCode) (eqb (bitOr inner mask) in
 
 unfoldable pub endsB : View → ℕ → Bool
 endsB v l =
-    ltb (fromOf v l) rowCount && (ltb (toOf v l) rowCount && (eqb (codeOf v (fromOf v l)) containerCode && (not (eqb (codeOf v (toOf v l)) 0) && maskN (maskOf v (fromOf v l)) (codeOf v (toOf v l)) (maskOf v (toOf v l)))))
+    ltb (fromOf v l) rowCount && (ltb (toOf v l) rowCount && (eqb (codeOf v (fromOf v l)) containerCode &&
+    (not (eqb (codeOf v (toOf v l)) 0) && maskN (maskOf v (fromOf v l)) (codeOf v (toOf v l)) (maskOf v (toOf v l)))))
 
 unfoldable pub linkB : View → ℕ → Bool
 linkB v l = cond (eqb (markOf v l) 0) true (endsB v l)

@@ -127,7 +127,8 @@ fn clear_between(b: &[u8], area: &mut [u8], r: usize, m: usize, n: usize)
 // The segment at row r becomes n bytes long: bytes that stay are as they were, new ones are zero, and so is every byte that is freed.
 pub fn resize(b: &mut [u8], area: &mut [u8], r: usize, n: u16)
     requires { ⌜ (length (now b) ≡ size) × (length (now area) ≡ areaSize) × (r < rowCount) × (codeOf (view (now b)) r ≡ segmentCode) × (n ≤ maxLength) × (Sound (view (now b))) ⌝ }
-    ensures { λ _. ⌜ (view (now (b .exit)) ≡ lengthened r n (view (now (b .entry)))) × (now (area .exit) ≡ areaAfter (view (now (b .entry))) (lengthened r n (view (now (b .entry)))) r (resized n (bytesOf (view (now (b .entry))) (now (area .entry)) r)) (now (area .entry))) ⌝ }
+    ensures { λ _. ⌜ (view (now (b .exit)) ≡ lengthened r n (view (now (b .entry)))) ×
+        (now (area .exit) ≡ areaAfter (view (now (b .entry))) (lengthened r n (view (now (b .entry)))) r (resized n (bytesOf (view (now (b .entry))) (now (area .entry)) r)) (now (area .entry))) ⌝ }
 {
     let old = get16(b, LEN, r);
     let blocks = blocks_of(n);

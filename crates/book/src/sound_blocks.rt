@@ -82,7 +82,8 @@ fn owned(b: &[u8], i: usize) -> bool
 }
 
 fn number(b: &[u8], offsets: &[u16; ROWS], i: usize) -> usize
-    requires { ⌜ (length (now b) ≡ size) × (i < blockCount) × (ownerOf (view (now b)) i ≡ 0 → ⊥) × (ownedB (view (now b)) i ≡ true) × (neededBlocks (view (now b)) ≤ blockCount) × Offsets (view (now b)) rowCount (now offsets) ⌝ }
+    requires { ⌜ (length (now b) ≡ size) × (i < blockCount) × (ownerOf (view (now b)) i ≡ 0 → ⊥) × (ownedB (view (now b)) i ≡ true) × (neededBlocks (view (now b)) ≤ blockCount)
+        × Offsets (view (now b)) rowCount (now offsets) ⌝ }
     ensures { λ n. ⌜ (n ≡ numberOf (view (now (b .entry))) i) × (n < blockCount) ⌝ }
 {
     let owner = row_of(get16(b, OWNER, i));
@@ -91,7 +92,8 @@ fn number(b: &[u8], offsets: &[u16; ROWS], i: usize) -> usize
 
 // Whether block i is as it should be, where those below it are; if so, its number is seen.
 fn block_ok(b: &[u8], offsets: &[u16; ROWS], seen: &mut [u8; BLOCKS], i: usize) -> bool
-    requires { ⌜ (length (now b) ≡ size) × (i < blockCount) × (neededBlocks (view (now b)) ≤ blockCount) × Offsets (view (now b)) rowCount (now offsets) × (every i (blockB (view (now b))) ≡ true) × Seen (view (now b)) i (now seen) ⌝ }
+    requires { ⌜ (length (now b) ≡ size) × (i < blockCount) × (neededBlocks (view (now b)) ≤ blockCount) × Offsets (view (now b)) rowCount (now offsets) ×
+        (every i (blockB (view (now b))) ≡ true) × Seen (view (now b)) i (now seen) ⌝ }
     ensures { λ t. ⌜ (t ≡ blockB (view (now (b .entry))) i) × (t ≡ true → Seen (view (now (b .entry))) (i + 1) (now (seen .exit))) ⌝ }
 {
     if get16(b, OWNER, i) == 0 {

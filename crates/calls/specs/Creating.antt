@@ -1,22 +1,24 @@
 -- Calls 4 to 7: what they share. RULES 8.4: "7 unless T may write D, T flows to the new label, that flows to the new clearance if there is one, and the last of these flows to
 -- T's clearance."
 use Prim.Native.Nat.{ℕ, _-_, _/_, _%_, _^_}
-use mathlib.Core.Bool.{Bool, true, not}
+use mathlib.Core.Bool.{true, not}
 use mathlib.Core.Path.{_≡_}
 use mathlib.Core.List.{List, [], _∷_}
 use lib.Dec.{eqb, leb}
 use Rattle.labels.specs.declared.Label.{Label}
-use Rattle.labels.specs.Core.{mayWrite}
-use Rattle.rules.specs.Kernel.{Obj, Condition, Call, goodArguments, kindCode, allHold, flow, grant, create}
+use Rattle.rules.specs.Kernel.{Obj, Condition, Call, goodArguments, kindCode, flow, writing, grant, create}
 use Rattle.tables.specs.Layout.{View, view}
 use Rattle.book.specs.declared.Found.the-variants.{At}
 use Rattle.book.specs.Book.{nextOf, maskOf, labelOf}
 use Rattle.book.specs.Find.{containerRow}
 use Rattle.book.specs.Units.{spareAt}
+use Rattle.calls.specs.declared.Refusal.the-variants.{MaskForbids, NoSpare}
+use Rattle.calls.specs.declared.Tested.{Tested}
 use Rattle.calls.specs.declared.Judged.{Judged}
 use Rattle.calls.specs.declared.Judged.the-variants.{Go}
 use Rattle.calls.specs.Outcome.{verdictOn}
-use Rattle.calls.specs.Tested.{tested}
+use Rattle.calls.specs.Conditions.{tested}
+use Rattle.calls.specs.Tested.{test, passing}
 
 -- ---- the label conditions beside writing D, of a thread with label m and clearance k
 
@@ -30,23 +32,23 @@ clearedConditions m k l n = flow m l ∷ flow l n ∷ flow n k ∷ []
 
 -- ---- judging
 
--- A new object x and its conditions, as the code knows them: the place of its kind's bit in a mask, its quota, and whether the conditions hold.
-pub record Asked (t x : Obj) (more : List Condition) (place quota : ℕ) (allowed : Bool) : Type 0 where
+-- A new object x and its conditions, as the code knows them: the place of its kind's bit in a mask, its quota, and what the conditions come to.
+pub record Asked (t x : Obj) (more : List Condition) (place quota : ℕ) (allowed : Tested) : Type 0 where
   pub bit : kindCode (x .kind) - 1 ≡ place
   pub units : x .quota ≡ quota
-  pub conditions : allHold (flow (t .label) (x .label) ∷ more) ≡ allowed
+  pub conditions : tested (flow (t .label) (x .label) ∷ more) ≡ allowed
 
 -- What is answered of it, of the thread at row t and the container at row k, from 7 on.
-abbrev pub admitted : View → ℕ → ℕ → ℕ → ℕ → Bool → Judged
+abbrev pub admitted : View → ℕ → ℕ → ℕ → ℕ → Tested → Judged
 admitted v t k place quota allowed =
-    tested (mayWrite (labelOf v t) (labelOf v k)) 7
-    (tested allowed 7
-    (tested (not (eqb (maskOf v k / 2 ^ place % 2) 1)) 8
-    (tested (leb quota (spareAt v k)) 13
-    (Go k 0 0))))
+    passing (tested (writing (labelOf v t) (labelOf v k)))
+    (passing allowed
+    (test (not (eqb (maskOf v k / 2 ^ place % 2) 1)) MaskForbids
+    (test (leb quota (spareAt v k)) NoSpare
+    (Go k 0))))
 
 -- the call is granted: x is to be made in d, the container at row i
-pub record ToMake (b area : List ℕ) (c : ℕ) (call : Call) (d : ℕ) (x : Obj) (i j l : ℕ) : Type 0 where
+pub record ToMake (b area : List ℕ) (c : ℕ) (call : Call) (d : ℕ) (x : Obj) (i j : ℕ) : Type 0 where
   pub good : goodArguments (nextOf (view b)) call ≡ true
   pub granted : verdictOn b area c call ≡ grant (nextOf (view b)) [] (create d x)
   pub container : containerRow (view b) d ≡ At i

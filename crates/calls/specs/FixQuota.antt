@@ -10,7 +10,7 @@ use Rattle.calls.specs.declared.Judged.{Judged}
 use Rattle.calls.specs.Outcome.{verdictOn, Means}
 
 -- o is at row r, and its quota is granted to be fixed
-pub record ToFix (b area : List ℕ) (c d o r j k : ℕ) : Type 0 where
+pub record ToFix (b area : List ℕ) (c d o r j : ℕ) : Type 0 where
   pub granted : verdictOn b area c (fixQuota d o) ≡ grant 0 [] (alter o fix)
   pub low : r < rowCount
   pub row : rowOf (view b) o ≡ At r

@@ -1,17 +1,16 @@
 -- Laws of judging and doing a call.
 pub mod Prelude
+pub mod Leave
 pub mod Begun
 pub mod Lookup
 pub mod Tested
 pub mod Conditions
 pub mod Unreference
 pub mod Storable
-pub mod AllHold
 pub mod Arguments
 pub mod Relabel
 pub mod SetLabel
 pub mod SetClearance
-pub mod Writing
 pub mod Entry
 pub mod FixQuota
 pub mod CreateCategory

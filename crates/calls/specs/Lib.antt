@@ -2,6 +2,7 @@
 pub mod Outcome
 pub mod Begun
 pub mod Lookup
+pub mod Conditions
 pub mod Tested
 pub mod Unreference
 pub mod Relabel

@@ -36,7 +36,7 @@ abbrev pub lookAt : View → Label → ℕ → List ℕ
 lookAt v mine r = descriptionOf v r ++ cond (shownB (codeOf v r) mine (labelOf v r)) (shownBytes (codeOf v r) (labelOf v r)) (hiddenBytes (codeOf v r))
 
 -- the caller, at row t, is granted to look at the object at row r
-pub record ToLook (b area : List ℕ) (c d o n t r l : ℕ) : Type 0 where
+pub record ToLook (b area : List ℕ) (c d o n t r : ℕ) : Type 0 where
   pub granted : verdictOn b area c (look d o n) ≡ grant 0 (lookAt (view b) (labelOf (view b) t) r) keep
   pub sized : n ≡ lookSize
   pub caller-low : t < rowCount

@@ -19,7 +19,7 @@ unfoldable pub isFixed : View → ℕ → Bool
 isFixed v r = cond (eqb (codeOf v r) segmentCode) (eqb (fixedOf v r) 1) false
 
 -- o is at row r, and u, which z means, is granted to be moved into it or back
-pub record ToMove (b area : List ℕ) (c d o : ℕ) (z : ℤ) (u : Amount) (r j k : ℕ) : Type 0 where
+pub record ToMove (b area : List ℕ) (c d o : ℕ) (z : ℤ) (u : Amount) (r j : ℕ) : Type 0 where
   pub granted : verdictOn b area c (moveQuota d o z) ≡ grant 0 [] (alter o (requota (quotaFor u (quotaOf (view b) r))))
   pub low : r < rowCount
   pub row : rowOf (view b) o ≡ At r

@@ -5,14 +5,16 @@ use mathlib.Core.Path.{_≡_}
 use mathlib.Core.List.{List}
 use lib.Dec.{eqb, leb}
 use lib.ListN.{length}
-use Rattle.rules.specs.Kernel.{segmentCode, Verdict, must, allHold, blockSize}
+use Rattle.rules.specs.Kernel.{segmentCode, Verdict, must, blockSize}
 use Rattle.tables.specs.Layout.{View, view}
 use Rattle.book.specs.declared.Found.the-variants.{At}
 use Rattle.book.specs.Book.{codeOf, lenOf, labelOf, blockAt, rowOf, worldOf}
+use Rattle.calls.specs.declared.Refusal.the-variants.{WrongKind, BeyondLength}
 use Rattle.calls.specs.declared.Judged.{Judged}
 use Rattle.calls.specs.declared.Judged.the-variants.{Go}
 use Rattle.calls.specs.Access.{asked, accessOn}
-use Rattle.calls.specs.Tested.{tested}
+use Rattle.calls.specs.Conditions.{tested}
+use Rattle.calls.specs.Tested.{test, passing}
 
 -- the rules' tests 5 to 11 of caller c, before what is granted
 abbrev pub partOn : List ℕ → List ℕ → ℕ → ℕ → ℕ → ℕ → ℕ → ℕ → Bool → Verdict → Verdict
@@ -31,7 +33,7 @@ pub record Lies (b : List ℕ) (s k f n p : ℕ) : Type 0 where
 -- what is answered of n bytes from byte f of block k, of the thread at row t and the object at row r, from 6 on
 abbrev pub partAt : View → ℕ → ℕ → ℕ → ℕ → ℕ → Bool → Judged
 partAt v t r k f n writes =
-    tested (eqb (codeOf v r) segmentCode) 6
-    (tested (allHold (asked writes (labelOf v t) (labelOf v r))) 7
-    (tested (leb (blockSize * k + f + n) (lenOf v r)) 11
-    (Go (blockSize * blockAt v r k + f) 0 0)))
+    test (eqb (codeOf v r) segmentCode) WrongKind
+    (passing (tested (asked writes (labelOf v t) (labelOf v r)))
+    (test (leb (blockSize * k + f + n) (lenOf v r)) BeyondLength
+    (Go (blockSize * blockAt v r k + f) 0)))

@@ -4,17 +4,20 @@ use mathlib.Core.Path.{_≡_}
 use mathlib.Core.List.{List}
 use lib.ListN.{length, take, drop}
 use denote.Ref.{RefT, ptr, now}
-use Rattle.rules.specs.Kernel.{Verdict, refuse, grant, read, keep, answerOf, valueOf, outputOf, blockSize}
+use Rattle.rules.specs.Kernel as kernel
+use Rattle.rules.specs.Kernel.{Refusal, Verdict, refused, grant, read, keep, answerOf, valueOf, outputOf, blockSize}
 use Rattle.tables.specs.Layout.{View, view}
 use Rattle.book.specs.Book.{blockAt, onFound, rowOf}
+use Rattle.calls.specs.declared.Answer.{Answer}
+use Rattle.calls.specs.declared.Answer.the-variants.{Refused}
 use Rattle.calls.specs.declared.read.Located.{Located}
 use Rattle.calls.specs.declared.read.Located.the-variants.{At, Off}
 use Rattle.calls.specs.declared.Judged.{Judged}
-use Rattle.calls.specs.Outcome.{verdictOn, Left, Means}
+use Rattle.calls.specs.Outcome.{verdictOn, Left, Done, Means}
 use Rattle.calls.specs.Part.{Lies}
 
 -- n bytes from p on are granted to be read
-pub record ToRead (b area : List ℕ) (c d s k f n p j l : ℕ) : Type 0 where
+pub record ToRead (b area : List ℕ) (c d s k f n p j : ℕ) : Type 0 where
   pub lies : Lies b s k f n p
   pub granted : verdictOn b area c (read d s k f n) ≡ grant 0 (take n (drop p area)) keep
 
@@ -36,19 +39,22 @@ pub record PartAt (b area : List ℕ) (c d s k f n : ℕ) (b′ : List ℕ) (p m
   pub inside : p + m ≤ length area
   pub left : Left b area c (read d s k f n) b′ area
 
-pub record NoPart (b area : List ℕ) (c d s k f n : ℕ) (b′ : List ℕ) (m : ℕ) : Type 0 where
-  pub refused : verdictOn b area c (read d s k f n) ≡ refuse m
-  pub left : Left b area c (read d s k f n) b′ area
+-- refused: the call is done with that answer
+pub record NoPart (b area : List ℕ) (c d s k f n : ℕ) (b′ : List ℕ) (a : Answer) : Type 0 where
+  pub why : Refusal
+  pub verdict : verdictOn b area c (read d s k f n) ≡ refused why
+  pub answered : a ≡ Refused (kernel.numberOf why)
+  pub done : Done b area c (read d s k f n) a b′ area
 
 abbrev pub LocatedAs : List ℕ → List ℕ → ℕ → ℕ → ℕ → ℕ → ℕ → ℕ → List ℕ → Located → Type 0
 LocatedAs b area c d s k f n b′ (At p m) = PartAt b area c d s k f n b′ p m
-LocatedAs b area c d s k f n b′ (Off m) = NoPart b area c d s k f n b′ m
+LocatedAs b area c d s k f n b′ (Off a) = NoPart b area c d s k f n b′ a
 
 -- ---- as the part itself
 
 -- how far into the data area the part begins; the empty part of a refusal begins where the area does
 unfoldable pub beginsAt : Verdict → ℕ → ℕ
-beginsAt (refuse m) p = 0
+beginsAt (refused r) p = 0
 beginsAt (grant v o h) p = p
 
 -- RULES 8.12: "The output is the part of the data area that has the bytes of S from 64k + from on, count of them; nothing is copied. If count is 0 or the call is refused, the

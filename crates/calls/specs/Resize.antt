@@ -10,7 +10,7 @@ use Rattle.calls.specs.declared.Judged.{Judged}
 use Rattle.calls.specs.Outcome.{verdictOn, Means}
 
 -- s is a segment, at row r, and granted to be n bytes long
-pub record ToResize (b area : List ℕ) (c d s n r j k : ℕ) : Type 0 where
+pub record ToResize (b area : List ℕ) (c d s n r j : ℕ) : Type 0 where
   pub granted : verdictOn b area c (resize d s n) ≡ grant 0 [] (alter s (rewrite (resized n (bytesOf (view b) area r))))
   pub row : rowOf (view b) s ≡ At r
   pub code : codeOf (view b) r ≡ segmentCode

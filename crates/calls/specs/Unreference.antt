@@ -10,7 +10,7 @@ use Rattle.calls.specs.declared.Judged.{Judged}
 use Rattle.calls.specs.Outcome.{verdictOn, Means}
 
 -- link l is live, leads from d to o, and is granted to be cut
-pub record ToCut (b area : List ℕ) (c d o l j k : ℕ) : Type 0 where
+pub record ToCut (b area : List ℕ) (c d o l j : ℕ) : Type 0 where
   pub granted : verdictOn b area c (unreference d o) ≡ grant 0 [] (cut d o)
   pub link-on : On (view b) l
   pub from-id : idOf (view b) (fromOf (view b) l) ≡ d

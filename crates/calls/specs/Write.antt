@@ -11,7 +11,7 @@ use Rattle.calls.specs.Outcome.{verdictOn, Means}
 use Rattle.calls.specs.Part.{Lies}
 
 -- the bytes are granted to be written at p
-pub record ToWrite (b area : List ℕ) (c d s k f n : ℕ) (bytes : List ℕ) (p j l : ℕ) : Type 0 where
+pub record ToWrite (b area : List ℕ) (c d s k f n : ℕ) (bytes : List ℕ) (p j : ℕ) : Type 0 where
   pub lies : Lies b s k f n p
   pub granted : verdictOn b area c (write d s k f n bytes) ≡ grant 0 [] (alter s (rewrite (overwrite (blockSize * k + f) bytes (bytesOf (view b) area (lies .at-row)))))
   pub long : length bytes ≡ n

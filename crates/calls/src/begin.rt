@@ -1,6 +1,7 @@
 // What every call asks first: whether the areas are good (1), whether the numbers have ended (2), and whether the caller is a live thread (3).
 ghost use Rattle.calls.specs.Begun.{BegunAs};
 use super::Begun;
+use super::Refusal;
 use book::Found;
 use book::find::next_of;
 use book::find::thread_of;
@@ -11,13 +12,13 @@ pub fn begin(b: &[u8], area: &[u8], caller: u64) -> Begun
     ensures { λ r. ⌜ BegunAs (now (b .entry)) (now (area .entry)) caller r ⌝ }
 {
     if !areas_sound(b, area) {
-        return Begun::Stopped(1);
+        return Begun::Not(Refusal::BadArea);
     }
     if LAST_NUMBER < next_of(b) {
-        return Begun::Stopped(2);
+        return Begun::Not(Refusal::NumbersEnded);
     }
     let Found::At(t) = thread_of(b, caller) else {
-        return Begun::Nobody;
+        return Begun::Not(Refusal::NoCaller);
     };
     Begun::By(t)
 }

@@ -3,14 +3,15 @@ ghost use mathlib.Core.Path.{_≡_};
 ghost use mathlib.Core.Bool.{cond};
 ghost use Prim.Native.Nat.{_<_};
 ghost use Rattle.rules.specs.Kernel.{clearedAt, createCategory};
-ghost use Rattle.calls.specs.CreateCategory.{clearsB, ToOwn};
-ghost use Rattle.calls.specs.Outcome.{Done, Means, verdictOn};
+ghost use Rattle.calls.specs.CreateCategory.{clearsB, CategoryJudged};
+ghost use Rattle.calls.specs.Outcome.{Done};
 use super::Answer;
 use super::Begun;
 use super::Judged;
+use super::Refusal;
 use super::begin::begin;
+use super::leave::leave;
 use super::relabel::take_labels;
-use book::alter::move_on;
 use book::find::clearance_of;
 use book::find::label_of;
 use book::find::next_of;
@@ -33,35 +34,30 @@ fn cleared(c: Label, n: u64) -> Paired
 }
 
 fn judge(b: &[u8], area: &[u8], caller: u64) -> Judged
-    ensures { λ r. ⌜ Means (now (b .entry)) (now (area .entry)) (verdictOn (now (b .entry)) (now (area .entry)) caller createCategory) (ToOwn (now (b .entry)) (now (area .entry)) caller) r ⌝ }
+    ensures { λ r. ⌜ CategoryJudged (now (b .entry)) (now (area .entry)) caller r ⌝ }
 {
     let t = match begin(b, area, caller) {
         Begun::By(t) => t,
-        Begun::Nobody => return Judged::No(3),
-        Begun::Stopped(k) => return Judged::Stop(k),
+        Begun::Not(r) => return Judged::No(r),
     };
     let n = next_of(b);
     let owned = with_pair(label_of(b, t), n, Label::STAR);
     if !owned.fits {
-        return Judged::No(12);
+        return Judged::No(Refusal::NinthPair);
     }
     let clear = cleared(clearance_of(b, t), n);
     if !clear.fits {
-        return Judged::No(12);
+        return Judged::No(Refusal::NinthPair);
     }
-    Judged::Go(t, 0, 0)
+    Judged::Go(t, 0)
 }
 
 pub fn create_category(b: &mut [u8], area: &mut [u8], caller: u64) -> Answer
     ensures { λ r. ⌜ Done (now (b .entry)) (now (area .entry)) caller createCategory r (now (b .exit)) (now (area .exit)) ⌝ }
 {
     let t = match judge(b, area, caller) {
-        Judged::Go(t, _, _) => t,
-        Judged::No(k) => {
-            move_on(b);
-            return Answer::Refused(k);
-        }
-        Judged::Stop(k) => return Answer::Refused(k),
+        Judged::Go(t, _) => t,
+        Judged::No(r) => return leave(b, r),
     };
     let n = next_of(b);
     let owned = with_pair(label_of(b, t), n, Label::STAR);

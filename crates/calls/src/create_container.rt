@@ -10,6 +10,7 @@ ghost use Rattle.calls.specs.CreateContainer.{containerRowOf, ContainerJ
 use super::Answer;
 use super::Begun;
 use super::Judged;
+use super::Refusal;
 use super::arguments::good_label;
 use super::arguments::good_text;
 use super::begin::begin;
@@ -18,9 +19,9 @@ use super::creating::admit;
 use super::creating::make_in;
 use super::creating::or_default;
 use super::creating::plain_allowed;
+use super::leave::leave;
 use super::lookup::open_container;
 use book::Found;
-use book::alter::move_on;
 use book::find::mask_of;
 use book::find::next_of;
 use book::kinds::CONTAINER;
@@ -68,14 +69,13 @@ fn judge(
 {
     let t = match begin(b, area, caller) {
         Begun::By(t) => t,
-        Begun::Nobody => return Judged::No(3),
-        Begun::Stopped(k) => return Judged::Stop(k),
+        Begun::Not(r) => return Judged::No(r),
     };
     if !good_arguments(next_of(b), label, description, mask, quota) {
-        return Judged::No(4);
+        return Judged::No(Refusal::BadArgument);
     }
     let Found::At(container) = open_container(b, t, d) else {
-        return Judged::No(5);
+        return Judged::No(Refusal::NoEntry);
     };
     let allowed = plain_allowed(b, t, label);
     admit(
@@ -123,12 +123,8 @@ pub fn create_container(
     ensures { λ r. ⌜ Done (now (b .entry)) (now (area .entry)) caller (createContainer d (now (label .entry)) (now (description .entry)) mask quota) r (now (b .exit)) (now (area .exit)) ⌝ }
 {
     let c = match judge(b, area, caller, d, label, description, mask, quota) {
-        Judged::Go(c, _, _) => c,
-        Judged::No(k) => {
-            move_on(b);
-            return Answer::Refused(k);
-        }
-        Judged::Stop(k) => return Answer::Refused(k),
+        Judged::Go(c, _) => c,
+        Judged::No(r) => return leave(b, r),
     };
     let all = joined(mask, mask_of(b, c));
     let row = new_row(from_bytes(label), all, or_default(quota, DEFAULT_QUOTA));

@@ -7,15 +7,16 @@ ghost use Rattle.calls.specs.CreateGate.{gateRowOf, GateJudged};
 use super::Answer;
 use super::Begun;
 use super::Judged;
+use super::Refusal;
 use super::arguments::good_label;
 use super::arguments::good_text;
 use super::begin::begin;
 use super::creating::admit;
 use super::creating::cleared_allowed;
 use super::creating::make_in;
+use super::leave::leave;
 use super::lookup::open_container;
 use book::Found;
-use book::alter::move_on;
 use book::find::next_of;
 use book::kinds::GATE;
 use book::make::NewRow;
@@ -65,14 +66,13 @@ fn judge(
 {
     let t = match begin(b, area, caller) {
         Begun::By(t) => t,
-        Begun::Nobody => return Judged::No(3),
-        Begun::Stopped(k) => return Judged::Stop(k),
+        Begun::Not(r) => return Judged::No(r),
     };
     if !good_arguments(next_of(b), label, clearance, closure, description) {
-        return Judged::No(4);
+        return Judged::No(Refusal::BadArgument);
     }
     let Found::At(container) = open_container(b, t, d) else {
-        return Judged::No(5);
+        return Judged::No(Refusal::NoEntry);
     };
     let allowed = cleared_allowed(b, t, label, clearance);
     admit(b, t, container, PLACE, QUOTA, allowed)
@@ -102,7 +102,8 @@ pub fn create_gate(
     closure: &[u8],
     description: &[u8],
 ) -> Answer
-    ensures { λ r. ⌜ Done (now (b .entry)) (now (area .entry)) caller (createGate d (now (label .entry)) (now (clearance .entry)) number (now (closure .entry)) (now (description .entry))) r (now (b .exit)) (now (area .exit)) ⌝ }
+    ensures { λ r. ⌜ Done (now (b .entry)) (now (area .entry)) caller
+        (createGate d (now (label .entry)) (now (clearance .entry)) number (now (closure .entry)) (now (description .entry))) r (now (b .exit)) (now (area .exit)) ⌝ }
 {
     let c = match judge(
         b,
@@ -115,12 +116,8 @@ pub fn create_gate(
         closure,
         description,
     ) {
-        Judged::Go(c, _, _) => c,
-        Judged::No(k) => {
-            move_on(b);
-            return Answer::Refused(k);
-        }
-        Judged::Stop(k) => return Answer::Refused(k),
+        Judged::Go(c, _) => c,
+        Judged::No(r) => return leave(b, r),
     };
     let row = new_row(from_bytes(label), from_bytes(clearance), number);
     Answer::Granted(make_in(b, c, row, description, closure))

@@ -4,13 +4,18 @@ ghost use Prim.Native.Nat.{_<_, _/_, _%_, _^_};
 ghost use lib.Dec.{eqb};
 ghost use lib.ListN.{length};
 ghost use Rattle.labels.specs.Core as core;
-ghost use Rattle.rules.specs.Kernel.{allHold, orDefault};
+ghost use Rattle.rules.specs.Kernel.{orDefault};
 ghost use Rattle.tables.specs.Layout.{view, size, rowCount};
 ghost use Rattle.book.specs.Book.{nextOf, labelOf, clearanceOf};
 ghost use Rattle.book.specs.Make.{objectOf, createdIn, Creating};
 ghost use Rattle.book.specs.Sound.{Sound, Live};
+ghost use Rattle.calls.specs.Conditions.{tested};
 ghost use Rattle.calls.specs.Creating.{plainConditions, clearedConditions, admitted};
 use super::Judged;
+use super::Refusal;
+use super::Tested;
+use super::conditions::flow;
+use super::conditions::writing;
 use book::find::clearance_of;
 use book::find::label_of;
 use book::find::mask_of;
@@ -19,8 +24,6 @@ use book::make::NewRow;
 use book::make::create;
 use book::units::spare_of;
 use labels::bytes::from_bytes;
-use labels::compare::flows;
-use labels::compare::may_write;
 
 // RULES 3.7: "The quota given to call 4 or 5 is at most 255, .."
 pub const MAX_QUOTA: u64 = 255;
@@ -45,52 +48,58 @@ fn bit_set(mask: u64, place: u64) -> bool
 
 // The label conditions of a new object without a clearance, beside that of writing the container: the thread at row t flows to the label, and that to
 // the thread's clearance.
-pub fn plain_allowed(b: &[u8], t: usize, label: &[u8]) -> bool
+pub fn plain_allowed(b: &[u8], t: usize, label: &[u8]) -> Tested
     requires { ⌜ (length (now b) ≡ size) × (t < rowCount) × (length (now label) ≡ core.labelSize) ⌝ }
-    ensures { λ r. ⌜ r ≡ allHold (plainConditions (labelOf (view (now (b .entry))) t) (clearanceOf (view (now (b .entry))) t) (core.labelOf (now (label .entry)))) ⌝ }
+    ensures { λ r. ⌜ r ≡ tested (plainConditions (labelOf (view (now (b .entry))) t) (clearanceOf (view (now (b .entry))) t) (core.labelOf (now (label .entry)))) ⌝ }
 {
     let new = from_bytes(label);
-    if !flows(label_of(b, t), new) {
-        return false;
+    match flow(label_of(b, t), new) {
+        Tested::Pass => {}
+        Tested::Fail(r) => return Tested::Fail(r),
     }
-    flows(new, clearance_of(b, t))
+    flow(new, clearance_of(b, t))
 }
 
 // The same of one with a clearance, which stands between the two.
-pub fn cleared_allowed(b: &[u8], t: usize, label: &[u8], clearance: &[u8]) -> bool
+pub fn cleared_allowed(b: &[u8], t: usize, label: &[u8], clearance: &[u8]) -> Tested
     requires { ⌜ (length (now b) ≡ size) × (t < rowCount) × (length (now label) ≡ core.labelSize) × (length (now clearance) ≡ core.labelSize) ⌝ }
-    ensures { λ r. ⌜ r ≡ allHold (clearedConditions (labelOf (view (now (b .entry))) t) (clearanceOf (view (now (b .entry))) t) (core.labelOf (now (label .entry))) (core.labelOf (now (clearance .entry)))) ⌝ }
+    ensures { λ r. ⌜ r ≡ tested (clearedConditions (labelOf (view (now (b .entry))) t) (clearanceOf (view (now (b .entry))) t)
+        (core.labelOf (now (label .entry))) (core.labelOf (now (clearance .entry)))) ⌝ }
 {
     let new = from_bytes(label);
     let most = from_bytes(clearance);
-    if !flows(label_of(b, t), new) {
-        return false;
+    match flow(label_of(b, t), new) {
+        Tested::Pass => {}
+        Tested::Fail(r) => return Tested::Fail(r),
     }
-    if !flows(new, most) {
-        return false;
+    match flow(new, most) {
+        Tested::Pass => {}
+        Tested::Fail(r) => return Tested::Fail(r),
     }
-    flows(most, clearance_of(b, t))
+    flow(most, clearance_of(b, t))
 }
 
 // Whether the thread at row t may create an object in the container at row c, by the tests from 7 on: `place` is the bit of the object's kind, and
-// `allowed` says whether its label conditions hold. Granted with the container's row.
-pub fn admit(b: &[u8], t: usize, c: usize, place: u64, quota: u64, allowed: bool) -> Judged
+// `allowed` says what its own label conditions came to. Granted with the container's row.
+pub fn admit(b: &[u8], t: usize, c: usize, place: u64, quota: u64, allowed: Tested) -> Judged
     requires { ⌜ (length (now b) ≡ size) × Sound (view (now b)) × (t < rowCount) × Live (view (now b)) c × (place < 64) ⌝ }
     ensures { λ r. ⌜ r ≡ admitted (view (now (b .entry))) t c place quota allowed ⌝ }
 {
-    if !may_write(label_of(b, t), label_of(b, c)) {
-        return Judged::No(7);
+    match writing(label_of(b, t), label_of(b, c)) {
+        Tested::Pass => {}
+        Tested::Fail(r) => return Judged::No(r),
     }
-    if !allowed {
-        return Judged::No(7);
+    match allowed {
+        Tested::Pass => {}
+        Tested::Fail(r) => return Judged::No(r),
     }
     if bit_set(mask_of(b, c), place) {
-        return Judged::No(8);
+        return Judged::No(Refusal::MaskForbids);
     }
     if spare_of(b, c) < quota {
-        return Judged::No(13);
+        return Judged::No(Refusal::NoSpare);
     }
-    Judged::Go(c, 0, 0)
+    Judged::Go(c, 0)
 }
 
 // Makes the object in the container at row c; the number it gets.

@@ -3,18 +3,24 @@ ghost use mathlib.Core.Path.{_≡_};
 ghost use Prim.Native.Nat.{_<_};
 ghost use lib.ListN.{length};
 ghost use Rattle.labels.specs.Core.{labelSize};
-ghost use Rattle.rules.specs.Kernel.{allHold, enterGate};
+ghost use Rattle.rules.specs.Kernel.{enterGate};
 ghost use Rattle.tables.specs.Layout.{view, size, rowCount};
+ghost use Rattle.calls.specs.Conditions.{tested};
 ghost use Rattle.calls.specs.EnterGate.{goodGate, gateConditions, asksAt, EnterJudged};
-ghost use Rattle.calls.specs.Outcome.{Done, verdictOn, outputLeft};
+ghost use Rattle.calls.specs.Outcome.{DoneWith};
 use super::Answer;
 use super::Begun;
 use super::Judged;
+use super::Refusal;
+use super::Tested;
 use super::arguments::good_label;
 use super::begin::begin;
+use super::conditions::floor_flow;
+use super::conditions::flow;
+use super::conditions::flow_join;
+use super::leave::leave;
 use super::lookup::open_entry;
 use super::relabel::take_labels;
-use book::alter::move_on;
 use book::find::Entry;
 use book::find::clearance_of;
 use book::find::closure_into;
@@ -25,9 +31,6 @@ use book::find::next_of;
 use book::kinds::GATE;
 use labels::Label;
 use labels::bytes::from_bytes;
-use labels::compare::floor_flows;
-use labels::compare::flows;
-use labels::compare::flows_join;
 use tables::TEXT_SIZE;
 
 // Whether L_R, C_R, L_V and the output's length are as they should be.
@@ -55,28 +58,32 @@ fn allowed(
     taken: Label,
     limit: Label,
     shown: Label,
-) -> bool
-    ensures { λ r. ⌜ r ≡ allHold (gateConditions mine cleared gate guard taken limit shown) ⌝ }
+) -> Tested
+    ensures { λ r. ⌜ r ≡ tested (gateConditions mine cleared gate guard taken limit shown) ⌝ }
 {
-    if !flows(mine, guard) {
-        return false;
+    match flow(mine, guard) {
+        Tested::Pass => {}
+        Tested::Fail(r) => return Tested::Fail(r),
     }
-    if !flows(mine, shown) {
-        return false;
+    match flow(mine, shown) {
+        Tested::Pass => {}
+        Tested::Fail(r) => return Tested::Fail(r),
     }
-    if !floor_flows(mine, gate, taken) {
-        return false;
+    match floor_flow(mine, gate, taken) {
+        Tested::Pass => {}
+        Tested::Fail(r) => return Tested::Fail(r),
     }
-    if !flows(taken, limit) {
-        return false;
+    match flow(taken, limit) {
+        Tested::Pass => {}
+        Tested::Fail(r) => return Tested::Fail(r),
     }
-    flows_join(limit, cleared, guard)
+    flow_join(limit, cleared, guard)
 }
 
 // The same of the thread at row t, the gate at row r and the bytes lent.
-fn conditions(b: &[u8], t: usize, r: usize, lr: &[u8], cr: &[u8], lv: &[u8]) -> bool
+fn conditions(b: &[u8], t: usize, r: usize, lr: &[u8], cr: &[u8], lv: &[u8]) -> Tested
     requires { ⌜ (length (now b) ≡ size) × (t < rowCount) × (r < rowCount) × (length (now lr) ≡ labelSize) × (length (now cr) ≡ labelSize) × (length (now lv) ≡ labelSize) ⌝ }
-    ensures { λ x. ⌜ x ≡ allHold (asksAt (view (now (b .entry))) t r (now (lr .entry)) (now (cr .entry)) (now (lv .entry))) ⌝ }
+    ensures { λ x. ⌜ x ≡ tested (asksAt (view (now (b .entry))) t r (now (lr .entry)) (now (cr .entry)) (now (lv .entry))) ⌝ }
 {
     let mine = label_of(b, t);
     let cleared = clearance_of(b, t);
@@ -103,22 +110,22 @@ fn judge(
 {
     let t = match begin(b, area, caller) {
         Begun::By(t) => t,
-        Begun::Nobody => return Judged::No(3),
-        Begun::Stopped(k) => return Judged::Stop(k),
+        Begun::Not(r) => return Judged::No(r),
     };
     if !good(next_of(b), lr, cr, lv, n) {
-        return Judged::No(4);
+        return Judged::No(Refusal::BadArgument);
     }
-    let Entry::In { object, link, .. } = open_entry(b, t, d, g) else {
-        return Judged::No(5);
+    let Entry::In { object, .. } = open_entry(b, t, d, g) else {
+        return Judged::No(Refusal::NoEntry);
     };
     if kind_of(b, object) != GATE {
-        return Judged::No(6);
+        return Judged::No(Refusal::WrongKind);
     }
-    if !conditions(b, t, object, lr, cr, lv) {
-        return Judged::No(7);
+    match conditions(b, t, object, lr, cr, lv) {
+        Tested::Pass => {}
+        Tested::Fail(r) => return Judged::No(r),
     }
-    Judged::Go(t, object, link)
+    Judged::Go(t, object)
 }
 
 pub fn enter_gate(
@@ -132,11 +139,13 @@ pub fn enter_gate(
     lv: &[u8],
     out: &mut [u8],
 ) -> Answer
-    ensures { λ r. ⌜ Done (now (b .entry)) (now (area .entry)) caller (enterGate d g (now (lr .entry)) (now (cr .entry)) (now (lv .entry)) (length (now (out .entry)))) r (now (b .exit)) (now (area .exit)) × (now (out .exit) ≡ outputLeft (verdictOn (now (b .entry)) (now (area .entry)) caller (enterGate d g (now (lr .entry)) (now (cr .entry)) (now (lv .entry)) (length (now (out .entry))))) (now (out .entry))) ⌝ }
+    ensures { λ r. ⌜ DoneWith (now (b .entry)) (now (area .entry)) caller
+        (enterGate d g (now (lr .entry)) (now (cr .entry)) (now (lv .entry)) (length (now (out .entry))))
+        (now (out .entry)) r (now (b .exit)) (now (area .exit)) (now (out .exit)) ⌝ }
 {
     let n = out.len();
     match judge(b, area, caller, d, g, lr, cr, lv, n) {
-        Judged::Go(t, r, _) => {
+        Judged::Go(t, r) => {
             let value = entry_number_of(b, r);
             closure_into(b, r, out);
             let taken = from_bytes(lr);
@@ -144,10 +153,6 @@ pub fn enter_gate(
             take_labels(b, t, taken, limit);
             Answer::Granted(value)
         }
-        Judged::No(k) => {
-            move_on(b);
-            return Answer::Refused(k);
-        }
-        Judged::Stop(k) => return Answer::Refused(k),
+        Judged::No(r) => return leave(b, r),
     }
 }

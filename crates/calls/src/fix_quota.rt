@@ -3,11 +3,17 @@ ghost use mathlib.Core.Path.{_≡_};
 ghost use mathlib.Core.List.{[], _∷_, _++_};
 ghost use Rattle.calls.specs.Outcome.{Done};
 ghost use Rattle.calls.specs.FixQuota.{FixJudged};
-ghost use Rattle.rules.specs.Kernel.{allHold, flow, writing, fixQuota};
+ghost use Rattle.rules.specs.Kernel as kernel;
+ghost use Rattle.calls.specs.Conditions.{tested};
 use super::Answer;
 use super::Begun;
 use super::Judged;
+use super::Refusal;
+use super::Tested;
 use super::begin::begin;
+use super::conditions::flow;
+use super::conditions::writing;
+use super::leave::leave;
 use super::lookup::open_entry;
 use book::alter::fix;
 use book::alter::move_on;
@@ -16,17 +22,16 @@ use book::find::kind_of;
 use book::find::label_of;
 use book::kinds::SEGMENT;
 use labels::Label;
-use labels::compare::flows;
-use labels::compare::may_write;
 
 // RULES 8.10: "7 unless T may write D and T flows to O."
-fn allowed(mine: Label, holder: Label, theirs: Label) -> bool
-    ensures { λ r. ⌜ r ≡ allHold (writing mine holder ++ (flow mine theirs ∷ [])) ⌝ }
+fn allowed(mine: Label, holder: Label, theirs: Label) -> Tested
+    ensures { λ r. ⌜ r ≡ tested (kernel.writing mine holder ++ (kernel.flow mine theirs ∷ [])) ⌝ }
 {
-    if !may_write(mine, holder) {
-        return false;
+    match writing(mine, holder) {
+        Tested::Pass => {}
+        Tested::Fail(r) => return Tested::Fail(r),
     }
-    flows(mine, theirs)
+    flow(mine, theirs)
 }
 
 fn judge(b: &[u8], area: &[u8], caller: u64, d: u64, o: u64) -> Judged
@@ -34,8 +39,7 @@ fn judge(b: &[u8], area: &[u8], caller: u64, d: u64, o: u64) -> Judged
 {
     let t = match begin(b, area, caller) {
         Begun::By(t) => t,
-        Begun::Nobody => return Judged::No(3),
-        Begun::Stopped(k) => return Judged::Stop(k),
+        Begun::Not(r) => return Judged::No(r),
     };
     let Entry::In {
         container,
@@ -43,27 +47,24 @@ fn judge(b: &[u8], area: &[u8], caller: u64, d: u64, o: u64) -> Judged
         ..
     } = open_entry(b, t, d, o)
     else {
-        return Judged::No(5);
+        return Judged::No(Refusal::NoEntry);
     };
     if kind_of(b, object) != SEGMENT {
-        return Judged::No(6);
+        return Judged::No(Refusal::WrongKind);
     }
-    if !allowed(label_of(b, t), label_of(b, container), label_of(b, object)) {
-        return Judged::No(7);
+    match allowed(label_of(b, t), label_of(b, container), label_of(b, object)) {
+        Tested::Pass => {}
+        Tested::Fail(r) => return Judged::No(r),
     }
-    Judged::Go(object, 0, 0)
+    Judged::Go(object, 0)
 }
 
 pub fn fix_quota(b: &mut [u8], area: &mut [u8], caller: u64, d: u64, o: u64) -> Answer
-    ensures { λ r. ⌜ Done (now (b .entry)) (now (area .entry)) caller (fixQuota d o) r (now (b .exit)) (now (area .exit)) ⌝ }
+    ensures { λ r. ⌜ Done (now (b .entry)) (now (area .entry)) caller (kernel.fixQuota d o) r (now (b .exit)) (now (area .exit)) ⌝ }
 {
     let row = match judge(b, area, caller, d, o) {
-        Judged::Go(row, _, _) => row,
-        Judged::No(k) => {
-            move_on(b);
-            return Answer::Refused(k);
-        }
-        Judged::Stop(k) => return Answer::Refused(k),
+        Judged::Go(row, _) => row,
+        Judged::No(r) => return leave(b, r),
     };
     fix(b, row);
     move_on(b);

@@ -6,21 +6,45 @@ pub enum Answer {
     Refused(u64),
 }
 
-// What judging a call comes to: the rows or links that it is to be done on, a refusal after which the number moves on, or one after which nothing does.
-pub enum Judged {
-    Go(usize, usize, usize),
-    No(u64),
-    Stop(u64),
+// Why a call is refused (RULES 6), by the names of the C header.
+pub enum Refusal {
+    BadArea,
+    NumbersEnded,
+    NoCaller,
+    BadArgument,
+    NoEntry,
+    WrongKind,
+    LabelForbids,
+    MaskForbids,
+    QuotaFixed,
+    AlreadyLinked,
+    BeyondLength,
+    NinthPair,
+    NoSpare,
 }
 
-// What every call asks first: the row of the calling thread, no thread (3), or stopped by 1 or 2.
+// What every call asks first: the row of the calling thread, or a refusal by 1, 2 or 3.
 pub enum Begun {
     By(usize),
-    Nobody,
-    Stopped(u64),
+    Not(Refusal),
 }
 
+// What testing label conditions comes to.
+pub enum Tested {
+    Pass,
+    Fail(Refusal),
+}
+
+// What judging a call comes to: the rows or links that it is to be done on, or a refusal.
+pub enum Judged {
+    Go(usize, usize),
+    No(Refusal),
+}
+
+pub mod spread; // spread.rt: an answer as two numbers
 pub mod begin; // begin.rt: what every call asks first
+pub mod leave; // leave.rt: the way out of a refused call
+pub mod conditions; // conditions.rt: the label conditions of answer 7
 pub mod lookup; // lookup.rt: a container or an entry that a thread may read
 pub mod unreference; // unreference.rt: call 8
 pub mod arguments; // arguments.rt: labels and texts that are lent

@@ -10,11 +10,13 @@ ghost use Rattle.rules.specs.Kernel.{look, lookSize};
 ghost use Rattle.tables.specs.Layout.{view, size, rowCount};
 ghost use Rattle.book.specs.Book.{labelOf};
 ghost use Rattle.calls.specs.Look.{openLook, shownB, shownBytes, hiddenBytes, lookAt, LookJudged};
-ghost use Rattle.calls.specs.Outcome.{Done, verdictOn, outputLeft};
+ghost use Rattle.calls.specs.Outcome.{DoneWith};
 use super::Answer;
 use super::Begun;
 use super::Judged;
+use super::Refusal;
 use super::begin::begin;
+use super::leave::leave;
 use super::lookup::open_container;
 use super::lookup::open_entry;
 use book::Found;
@@ -57,16 +59,15 @@ fn judge(b: &[u8], area: &[u8], caller: u64, d: u64, o: u64, n: usize) -> Judged
 {
     let t = match begin(b, area, caller) {
         Begun::By(t) => t,
-        Begun::Nobody => return Judged::No(3),
-        Begun::Stopped(k) => return Judged::Stop(k),
+        Begun::Not(r) => return Judged::No(r),
     };
     if n != LOOK_SIZE {
-        return Judged::No(4);
+        return Judged::No(Refusal::BadArgument);
     }
-    let Entry::In { object, link, .. } = open_look(b, t, d, o) else {
-        return Judged::No(5);
+    let Entry::In { object, .. } = open_look(b, t, d, o) else {
+        return Judged::No(Refusal::NoEntry);
     };
-    Judged::Go(t, object, link)
+    Judged::Go(t, object)
 }
 
 // ---- what is put out
@@ -138,19 +139,16 @@ fn look_into(b: &[u8], t: usize, r: usize, out: &mut [u8])
 }
 
 pub fn look(b: &mut [u8], area: &mut [u8], caller: u64, d: u64, o: u64, out: &mut [u8]) -> Answer
-    ensures { λ r. ⌜ Done (now (b .entry)) (now (area .entry)) caller (look d o (length (now (out .entry)))) r (now (b .exit)) (now (area .exit)) × (now (out .exit) ≡ outputLeft (verdictOn (now (b .entry)) (now (area .entry)) caller (look d o (length (now (out .entry))))) (now (out .entry))) ⌝ }
+    ensures { λ r. ⌜ DoneWith (now (b .entry)) (now (area .entry)) caller (look d o (length (now (out .entry))))
+        (now (out .entry)) r (now (b .exit)) (now (area .exit)) (now (out .exit)) ⌝ }
 {
     let n = out.len();
     match judge(b, area, caller, d, o, n) {
-        Judged::Go(t, r, _) => {
+        Judged::Go(t, r) => {
             look_into(b, t, r, out);
             move_on(b);
             Answer::Granted(0)
         }
-        Judged::No(k) => {
-            move_on(b);
-            return Answer::Refused(k);
-        }
-        Judged::Stop(k) => return Answer::Refused(k),
+        Judged::No(r) => return leave(b, r),
     }
 }

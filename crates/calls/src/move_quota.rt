@@ -10,15 +10,23 @@ ghost use Rattle.book.specs.Sound.{Live, Sound};
 ghost use Rattle.calls.specs.Amount.{moreFor, roomAt};
 ghost use Rattle.calls.specs.MoveQuota.{MeansMoving, isFixed};
 ghost use Rattle.calls.specs.Outcome.{Done};
-ghost use Rattle.rules.specs.Kernel.{segmentCode, containerCode, allHold, flow, writing, moveQuota};
+ghost use Rattle.rules.specs.Kernel as kernel;
+ghost use Rattle.rules.specs.Kernel.{segmentCode, containerCode};
+ghost use Rattle.calls.specs.Conditions.{tested};
 use super::Answer;
 use super::Begun;
 use super::Judged;
+use super::Refusal;
+use super::Tested;
 use super::amount::Amount;
 use super::amount::moved;
 use super::amount::over_limit;
 use super::amount::units_of;
 use super::begin::begin;
+use super::conditions::flow;
+use super::conditions::reading;
+use super::conditions::writing;
+use super::leave::leave;
 use super::lookup::open_entry;
 use book::alter::move_on;
 use book::alter::set_quota;
@@ -32,9 +40,6 @@ use book::kinds::CONTAINER;
 use book::kinds::SEGMENT;
 use book::units::spare_of;
 use labels::Label;
-use labels::compare::flows;
-use labels::compare::may_read;
-use labels::compare::may_write;
 
 // A segment or a container.
 fn movable(kind: u8) -> bool
@@ -47,28 +52,31 @@ fn movable(kind: u8) -> bool
 }
 
 // RULES 8.11: ".. and, for n below 0, O flows to high(T)."
-fn readable(mine: Label, theirs: Label, units: Amount) -> bool
-    ensures { λ r. ⌜ r ≡ allHold (moreFor units mine theirs) ⌝ }
+fn readable(mine: Label, theirs: Label, units: Amount) -> Tested
+    ensures { λ r. ⌜ r ≡ tested (moreFor units mine theirs) ⌝ }
 {
     match units {
-        Amount::In(m) => return true,
-        Amount::Out(m) => return may_read(mine, theirs),
-        Amount::Bad => return true,
+        Amount::In(m) => return Tested::Pass,
+        Amount::Out(m) => return reading(mine, theirs),
+        Amount::Bad => return Tested::Pass,
     }
 }
 
 // RULES 8.11: "7 unless T may write D, T flows to O, O flows to T's clearance and, for n below 0, O flows to high(T)."
-fn allowed(mine: Label, clear: Label, holder: Label, theirs: Label, units: Amount) -> bool
-    ensures { λ r. ⌜ r ≡ allHold (writing mine holder ++ (flow mine theirs ∷ flow theirs clear ∷ moreFor units mine theirs)) ⌝ }
+fn allowed(mine: Label, clear: Label, holder: Label, theirs: Label, units: Amount) -> Tested
+    ensures { λ r. ⌜ r ≡ tested (kernel.writing mine holder ++ (kernel.flow mine theirs ∷ kernel.flow theirs clear ∷ moreFor units mine theirs)) ⌝ }
 {
-    if !may_write(mine, holder) {
-        return false;
+    match writing(mine, holder) {
+        Tested::Pass => {}
+        Tested::Fail(r) => return Tested::Fail(r),
     }
-    if !flows(mine, theirs) {
-        return false;
+    match flow(mine, theirs) {
+        Tested::Pass => {}
+        Tested::Fail(r) => return Tested::Fail(r),
     }
-    if !flows(theirs, clear) {
-        return false;
+    match flow(theirs, clear) {
+        Tested::Pass => {}
+        Tested::Fail(r) => return Tested::Fail(r),
     }
     readable(mine, theirs, units)
 }
@@ -101,11 +109,10 @@ fn judge(b: &[u8], area: &[u8], caller: u64, d: u64, o: u64, units: Amount) -> J
 {
     let t = match begin(b, area, caller) {
         Begun::By(t) => t,
-        Begun::Nobody => return Judged::No(3),
-        Begun::Stopped(k) => return Judged::Stop(k),
+        Begun::Not(r) => return Judged::No(r),
     };
     if over_limit(units) {
-        return Judged::No(4);
+        return Judged::No(Refusal::BadArgument);
     }
     let Entry::In {
         container,
@@ -113,36 +120,33 @@ fn judge(b: &[u8], area: &[u8], caller: u64, d: u64, o: u64, units: Amount) -> J
         ..
     } = open_entry(b, t, d, o)
     else {
-        return Judged::No(5);
+        return Judged::No(Refusal::NoEntry);
     };
     if !movable(kind_of(b, object)) {
-        return Judged::No(6);
+        return Judged::No(Refusal::WrongKind);
     }
     let mine = label_of(b, t);
     let holder = label_of(b, container);
-    if !allowed(mine, clearance_of(b, t), holder, label_of(b, object), units) {
-        return Judged::No(7);
+    match allowed(mine, clearance_of(b, t), holder, label_of(b, object), units) {
+        Tested::Pass => {}
+        Tested::Fail(r) => return Judged::No(r),
     }
     if is_fixed(b, object) {
-        return Judged::No(9);
+        return Judged::No(Refusal::QuotaFixed);
     }
     if !has_room(b, container, object, units) {
-        return Judged::No(13);
+        return Judged::No(Refusal::NoSpare);
     }
-    Judged::Go(object, 0, 0)
+    Judged::Go(object, 0)
 }
 
 pub fn move_quota(b: &mut [u8], area: &mut [u8], caller: u64, d: u64, o: u64, n: i64) -> Answer
-    ensures { λ r. ⌜ Done (now (b .entry)) (now (area .entry)) caller (moveQuota d o n) r (now (b .exit)) (now (area .exit)) ⌝ }
+    ensures { λ r. ⌜ Done (now (b .entry)) (now (area .entry)) caller (kernel.moveQuota d o n) r (now (b .exit)) (now (area .exit)) ⌝ }
 {
     let units = units_of(n);
     let row = match judge(b, area, caller, d, o, units) {
-        Judged::Go(row, _, _) => row,
-        Judged::No(k) => {
-            move_on(b);
-            return Answer::Refused(k);
-        }
-        Judged::Stop(k) => return Answer::Refused(k),
+        Judged::Go(row, _) => row,
+        Judged::No(r) => return leave(b, r),
     };
     let q = moved(quota_of(b, row), units);
     set_quota(b, row, q);

@@ -4,12 +4,17 @@ ghost use mathlib.Core.Path.{_≡_};
 ghost use Prim.Native.Nat.{_+_, _*_, _<_, _≤_};
 ghost use lib.Dec.{leb};
 ghost use lib.ListN.{length};
-ghost use Rattle.rules.specs.Kernel.{allHold, blockSize, maxBlock};
+ghost use Rattle.rules.specs.Kernel.{blockSize, maxBlock};
 ghost use Rattle.tables.specs.Layout.{view, size, rowCount};
 ghost use Rattle.book.specs.Book.{blockAt};
+ghost use Rattle.calls.specs.Conditions.{tested};
 ghost use Rattle.calls.specs.Part.{partAt};
 ghost use Rattle.calls.specs.Access.{asked};
 use super::Judged;
+use super::Refusal;
+use super::Tested;
+use super::conditions::reading;
+use super::conditions::writing;
 use book::Found;
 use book::blocks::block_of;
 use book::find::kind_of;
@@ -17,8 +22,6 @@ use book::find::label_of;
 use book::find::len_of;
 use book::kinds::SEGMENT;
 use labels::Label;
-use labels::compare::may_read;
-use labels::compare::may_write;
 
 // RULES 8.12: "4 if k is above 253, .."
 const MAX_BLOCK: u64 = 253;
@@ -43,13 +46,13 @@ pub fn good_part(k: u64, from: u64, count: u64) -> bool
 }
 
 // RULES 8.12: "7 unless T may read S." 8.13: "7 unless T may write S."
-fn allowed(mine: Label, theirs: Label, writes: bool) -> bool
-    ensures { λ r. ⌜ r ≡ allHold (asked writes mine theirs) ⌝ }
+fn allowed(mine: Label, theirs: Label, writes: bool) -> Tested
+    ensures { λ r. ⌜ r ≡ tested (asked writes mine theirs) ⌝ }
 {
     if writes {
-        return may_write(mine, theirs);
+        return writing(mine, theirs);
     }
-    may_read(mine, theirs)
+    reading(mine, theirs)
 }
 
 // Where byte `from` of block k of the segment at row r lies. An empty part may stand behind the last block.
@@ -78,13 +81,14 @@ pub fn find_part(
     ensures { λ x. ⌜ x ≡ partAt (view (now (b .entry))) t r k from count writes ⌝ }
 {
     if kind_of(b, r) != SEGMENT {
-        return Judged::No(6);
+        return Judged::No(Refusal::WrongKind);
     }
-    if !allowed(label_of(b, t), label_of(b, r), writes) {
-        return Judged::No(7);
+    match allowed(label_of(b, t), label_of(b, r), writes) {
+        Tested::Pass => {}
+        Tested::Fail(why) => return Judged::No(why),
     }
     if len_of(b, r) < BLOCK_SIZE * k + from + count {
-        return Judged::No(11);
+        return Judged::No(Refusal::BeyondLength);
     }
-    Judged::Go(place_of(b, r, k as usize, from as usize), 0, 0)
+    Judged::Go(place_of(b, r, k as usize, from as usize), 0)
 }

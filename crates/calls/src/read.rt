@@ -1,18 +1,22 @@
 // Call 12: part of a segment's block read. What is handed back is that part of the data area itself.
 ghost use Rattle.calls.specs.Read.{LocatedAs, Shown, ReadJudged};
+use super::Answer;
 use super::Begun;
 use super::Judged;
+use super::Refusal;
 use super::begin::begin;
+use super::leave::leave;
 use super::lookup::open_entry;
 use super::part::find_part;
 use super::part::good_part;
+use super::spread::spread;
 use book::alter::move_on;
 use book::find::Entry;
 
-// The place and the count of the part that is read, or the refusal's number.
+// The place and the count of the part that is read, or the refusal.
 pub enum Located {
     At(usize, usize),
-    Off(u64),
+    Off(Answer),
 }
 
 fn judge(
@@ -29,14 +33,13 @@ fn judge(
 {
     let t = match begin(b, area, caller) {
         Begun::By(t) => t,
-        Begun::Nobody => return Judged::No(3),
-        Begun::Stopped(n) => return Judged::Stop(n),
+        Begun::Not(r) => return Judged::No(r),
     };
     if !good_part(k, from, count) {
-        return Judged::No(4);
+        return Judged::No(Refusal::BadArgument);
     }
     let Entry::In { object, .. } = open_entry(b, t, d, s) else {
-        return Judged::No(5);
+        return Judged::No(Refusal::NoEntry);
     };
     find_part(b, t, object, k, from, count, false)
 }
@@ -55,12 +58,8 @@ pub fn locate(
     ensures { λ r. ⌜ LocatedAs (now (b .entry)) (now (area .entry)) caller d s k from count (now (b .exit)) r ⌝ }
 {
     let place = match judge(b, area, caller, d, s, k, from, count) {
-        Judged::Go(place, _, _) => place,
-        Judged::No(n) => {
-            move_on(b);
-            return Located::Off(n);
-        }
-        Judged::Stop(n) => return Located::Off(n),
+        Judged::Go(place, _) => place,
+        Judged::No(r) => return Located::Off(leave(b, r)),
     };
     move_on(b);
     Located::At(place, count as usize)
@@ -80,14 +79,14 @@ pub fn read<'a>(
 ) -> &'a [u8]
     ensures { λ r. ⌜ Shown (now (b .entry)) (area .entry) caller d s k from count (now (answer .exit)) (now (value .exit)) r (now (b .exit)) ⌝ }
 {
-    *value = 0;
     match locate(b, area, caller, d, s, k, from, count) {
         Located::At(place, n) => {
             *answer = 0;
+            *value = 0;
             &area[place..place + n]
         }
-        Located::Off(n) => {
-            *answer = n;
+        Located::Off(refused) => {
+            *answer = spread(refused, value);
             &area[..0]
         }
     }

@@ -5,7 +5,11 @@ ghost use Rattle.calls.specs.Resize.{ResizeJudged};
 use super::Answer;
 use super::Begun;
 use super::Judged;
+use super::Refusal;
+use super::Tested;
 use super::begin::begin;
+use super::conditions::writing;
+use super::leave::leave;
 use super::lookup::open_entry;
 use book::alter::move_on;
 use book::find::Entry;
@@ -14,7 +18,6 @@ use book::find::label_of;
 use book::find::quota_of;
 use book::kinds::SEGMENT;
 use book::units::units;
-use labels::compare::may_write;
 
 // RULES 8.14: "4 if the length is above 16,256."
 const MAX_LENGTH: u64 = book::limits::MAX_LENGTH as u64;
@@ -24,37 +27,33 @@ fn judge(b: &[u8], area: &[u8], caller: u64, d: u64, s: u64, length: u64) -> Jud
 {
     let t = match begin(b, area, caller) {
         Begun::By(t) => t,
-        Begun::Nobody => return Judged::No(3),
-        Begun::Stopped(k) => return Judged::Stop(k),
+        Begun::Not(r) => return Judged::No(r),
     };
     if MAX_LENGTH < length {
-        return Judged::No(4);
+        return Judged::No(Refusal::BadArgument);
     }
     let Entry::In { object, .. } = open_entry(b, t, d, s) else {
-        return Judged::No(5);
+        return Judged::No(Refusal::NoEntry);
     };
     if kind_of(b, object) != SEGMENT {
-        return Judged::No(6);
+        return Judged::No(Refusal::WrongKind);
     }
-    if !may_write(label_of(b, t), label_of(b, object)) {
-        return Judged::No(7);
+    match writing(label_of(b, t), label_of(b, object)) {
+        Tested::Pass => {}
+        Tested::Fail(r) => return Judged::No(r),
     }
     if quota_of(b, object) < units(length) {
-        return Judged::No(13);
+        return Judged::No(Refusal::NoSpare);
     }
-    Judged::Go(object, 0, 0)
+    Judged::Go(object, 0)
 }
 
 pub fn resize(b: &mut [u8], area: &mut [u8], caller: u64, d: u64, s: u64, length: u64) -> Answer
     ensures { λ r. ⌜ Done (now (b .entry)) (now (area .entry)) caller (kernel.resize d s length) r (now (b .exit)) (now (area .exit)) ⌝ }
 {
     let row = match judge(b, area, caller, d, s, length) {
-        Judged::Go(row, _, _) => row,
-        Judged::No(k) => {
-            move_on(b);
-            return Answer::Refused(k);
-        }
-        Judged::Stop(k) => return Answer::Refused(k),
+        Judged::Go(row, _) => row,
+        Judged::No(r) => return leave(b, r),
     };
     book::resize::resize(b, area, row, length as u16);
     move_on(b);

@@ -1,63 +1,63 @@
 // Call 2: the caller takes another label.
 ghost use mathlib.Core.Path.{_≡_};
 ghost use mathlib.Core.List.{[], _∷_};
-ghost use Rattle.rules.specs.Kernel.{allHold, flow, setLabel};
-ghost use Rattle.calls.specs.Outcome.{Done, Means, verdictOn};
-ghost use Rattle.calls.specs.SetLabel.{ToSetLabel};
+ghost use Rattle.rules.specs.Kernel as kernel;
+ghost use Rattle.calls.specs.Conditions.{tested};
+ghost use Rattle.calls.specs.Outcome.{Done};
+ghost use Rattle.calls.specs.SetLabel.{LabelJudged};
 use super::Answer;
 use super::Begun;
 use super::Judged;
+use super::Refusal;
+use super::Tested;
 use super::arguments::good_label;
 use super::begin::begin;
+use super::conditions::flow;
+use super::leave::leave;
 use super::relabel::take_labels;
-use book::alter::move_on;
 use book::find::clearance_of;
 use book::find::label_of;
 use book::find::next_of;
 use labels::Label;
 use labels::bytes::from_bytes;
-use labels::compare::flows;
 
 // RULES 8.2: "7 unless T flows to L and L flows to T's clearance."
-fn allowed(mine: Label, taken: Label, cleared: Label) -> bool
-    ensures { λ r. ⌜ r ≡ allHold (flow mine taken ∷ flow taken cleared ∷ []) ⌝ }
+fn allowed(mine: Label, taken: Label, cleared: Label) -> Tested
+    ensures { λ r. ⌜ r ≡ tested (kernel.flow mine taken ∷ kernel.flow taken cleared ∷ []) ⌝ }
 {
-    if !flows(mine, taken) {
-        return false;
+    match flow(mine, taken) {
+        Tested::Pass => {}
+        Tested::Fail(r) => return Tested::Fail(r),
     }
-    flows(taken, cleared)
+    flow(taken, cleared)
 }
 
 fn judge(b: &[u8], area: &[u8], caller: u64, label: &[u8]) -> Judged
-    ensures { λ r. ⌜ Means (now (b .entry)) (now (area .entry)) (verdictOn (now (b .entry)) (now (area .entry)) caller (setLabel (now (label .entry)))) (ToSetLabel (now (b .entry)) (now (area .entry)) caller (now (label .entry))) r ⌝ }
+    ensures { λ r. ⌜ LabelJudged (now (b .entry)) (now (area .entry)) caller (now (label .entry)) r ⌝ }
 {
     let t = match begin(b, area, caller) {
         Begun::By(t) => t,
-        Begun::Nobody => return Judged::No(3),
-        Begun::Stopped(k) => return Judged::Stop(k),
+        Begun::Not(r) => return Judged::No(r),
     };
     if !good_label(label, next_of(b), true) {
-        return Judged::No(4);
+        return Judged::No(Refusal::BadArgument);
     }
     let mine = label_of(b, t);
     let taken = from_bytes(label);
     let cleared = clearance_of(b, t);
-    if !allowed(mine, taken, cleared) {
-        return Judged::No(7);
+    match allowed(mine, taken, cleared) {
+        Tested::Pass => {}
+        Tested::Fail(r) => return Judged::No(r),
     }
-    Judged::Go(t, 0, 0)
+    Judged::Go(t, 0)
 }
 
 pub fn set_label(b: &mut [u8], area: &mut [u8], caller: u64, label: &[u8]) -> Answer
-    ensures { λ r. ⌜ Done (now (b .entry)) (now (area .entry)) caller (setLabel (now (label .entry))) r (now (b .exit)) (now (area .exit)) ⌝ }
+    ensures { λ r. ⌜ Done (now (b .entry)) (now (area .entry)) caller (kernel.setLabel (now (label .entry))) r (now (b .exit)) (now (area .exit)) ⌝ }
 {
     let t = match judge(b, area, caller, label) {
-        Judged::Go(t, _, _) => t,
-        Judged::No(k) => {
-            move_on(b);
-            return Answer::Refused(k);
-        }
-        Judged::Stop(k) => return Answer::Refused(k),
+        Judged::Go(t, _) => t,
+        Judged::No(r) => return leave(b, r),
     };
     let taken = from_bytes(label);
     let cleared = clearance_of(b, t);

@@ -1,5 +1,7 @@
 // Start: the root container and its thread in areas that held anything.
 ghost use Rattle.calls.specs.Started.{Started};
+use super::leave::BAD_AREA;
+use super::leave::BAD_ARGUMENT;
 use book::sound::AREA_LEN;
 use tables::is_whole;
 
@@ -10,16 +12,16 @@ pub fn start(b: &mut [u8], area: &mut [u8], first: u64) -> u64
     ensures { λ r. ⌜ Started (now (b .entry)) (now (area .entry)) first r (now (b .exit)) (now (area .exit)) ⌝ }
 {
     if !is_whole(b) {
-        return 1;
+        return BAD_AREA;
     }
     if area.len() != AREA_LEN {
-        return 1;
+        return BAD_AREA;
     }
     if first < 1 {
-        return 4;
+        return BAD_ARGUMENT;
     }
     if LAST_FIRST < first {
-        return 4;
+        return BAD_ARGUMENT;
     }
     book::start::start(b, area, first);
     0

@@ -5,7 +5,9 @@ ghost use Rattle.calls.specs.Write.{WriteJudged};
 use super::Answer;
 use super::Begun;
 use super::Judged;
+use super::Refusal;
 use super::begin::begin;
+use super::leave::leave;
 use super::lookup::open_entry;
 use super::part::find_part;
 use super::part::good_part;
@@ -28,17 +30,16 @@ fn judge(
 {
     let t = match begin(b, area, caller) {
         Begun::By(t) => t,
-        Begun::Nobody => return Judged::No(3),
-        Begun::Stopped(n) => return Judged::Stop(n),
+        Begun::Not(r) => return Judged::No(r),
     };
     if !good_part(k, from, count) {
-        return Judged::No(4);
+        return Judged::No(Refusal::BadArgument);
     }
     if bytes.len() as u64 != count {
-        return Judged::No(4);
+        return Judged::No(Refusal::BadArgument);
     }
     let Entry::In { object, .. } = open_entry(b, t, d, s) else {
-        return Judged::No(5);
+        return Judged::No(Refusal::NoEntry);
     };
     find_part(b, t, object, k, from, count, true)
 }
@@ -57,12 +58,8 @@ pub fn write(
     ensures { λ r. ⌜ Done (now (b .entry)) (now (area .entry)) caller (kernel.write d s k from count (now (bytes .entry))) r (now (b .exit)) (now (area .exit)) ⌝ }
 {
     let place = match judge(b, area, caller, d, s, k, from, count, bytes) {
-        Judged::Go(place, _, _) => place,
-        Judged::No(n) => {
-            move_on(b);
-            return Answer::Refused(n);
-        }
-        Judged::Stop(n) => return Answer::Refused(n),
+        Judged::Go(place, _) => place,
+        Judged::No(r) => return leave(b, r),
     };
     write_area(area, place, bytes);
     move_on(b);

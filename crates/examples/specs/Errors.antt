@@ -8,7 +8,11 @@ use Rattle.labels.specs.Le.{leAt, leBytes}
 use Rattle.labels.specs.Core.{levelAt, everyNamed, holdsB, compareB, zerosB, wordsB, formedB, insertW, roomB, wordsAt, labelOf, wordsBytes, labelBytes}
 use Rattle.quotas.specs.Sum.{Σ, when}
 use Rattle.quotas.specs.Any.{any, both, either}
-use Rattle.rules.specs.Kernel.{createCategory, setLabel, createContainer, createSegment, createGate, createThread, unreference, linkSegment, fixQuota, read, write, resize, enterGate, start, call, after, tests, judge, must, opens, entry, make, move, access, forbids, fits, spareOf, useOf, charged, units, answerOf, valueOf, outputOf, leaves, apply, put, linkIn, under, below, stays, kept, edit, goodArguments, goodLabel, goodText, holds, allHold, flow, reading, writing, floorFlow, flowJoin, flowJoinHigh, containerOf, segmentOf, gateOf, threadOf, clearedAt, lookBytes, overwrite, resized, orDefault, kindCode, isLive, isThread, isGate, isSegment, isContainer, hasClearance, blank, nothing}
+use Rattle.rules.specs.Kernel.{createCategory, setLabel, createContainer, createSegment, createGate, createThread, unreference, linkSegment, fixQuota, read, write, resize}
+use Rattle.rules.specs.Kernel.{enterGate, start, call, after, tests, judge, unless, must, whyNot, mustHold, opens, entry, make, move, access, forbids, fits, spareOf, useOf}
+use Rattle.rules.specs.Kernel.{charged, units, answerOf, valueOf, outputOf, leaves, apply, put, linkIn, under, below, stays, kept, edit, goodArguments, goodLabel, goodText, holds}
+use Rattle.rules.specs.Kernel.{allHold, flow, reading, writing, floorFlow, flowJoin, flowJoinHigh, containerOf, segmentOf, gateOf, threadOf, clearedAt, lookBytes, overwrite}
+use Rattle.rules.specs.Kernel.{resized, orDefault, kindCode, isLive, isThread, isGate, isSegment, isContainer, hasClearance, blank, nothing}
 use Rattle.examples.specs.Play.{Turn, Said, Day, turn, said, day, run, played, written, wordsFor, lent, zeros32}
 
 -- the labels {1}, {2}, {7:3, 1}, {7:star, 1}, {7:3, 2}
@@ -155,5 +159,10 @@ days =
 
 -- every call of these histories says what is written beside it
 pub easy-errors : played days ≡ written days
-unfolding days existence existence-said unnamed unnamed-said numbers numbers-said cleared cleared-said charged-twice charged-twice-said masked masked-said ownership ownership-said one two secret owner clearance run played written wordsFor lent zeros32 start call after tests judge must opens entry make move access forbids fits spareOf useOf charged units answerOf valueOf outputOf leaves apply put linkIn under below stays kept edit goodArguments goodLabel goodText holds allHold flow reading writing floorFlow flowJoin flowJoinHigh containerOf segmentOf gateOf threadOf clearedAt lookBytes overwrite resized orDefault kindCode isLive isThread isGate isSegment isContainer hasClearance blank nothing Σ when any both either leAt leBytes levelAt everyNamed holdsB compareB zerosB wordsB formedB insertW roomB wordsAt labelOf wordsBytes labelBytes
+unfolding days existence existence-said unnamed unnamed-said numbers numbers-said cleared cleared-said charged-twice charged-twice-said masked masked-said ownership
+    ownership-said one two secret owner clearance run played written wordsFor lent zeros32 start call after tests judge unless must whyNot mustHold opens entry make move
+    access forbids fits spareOf useOf charged units answerOf valueOf outputOf leaves apply put linkIn under below stays kept edit goodArguments goodLabel goodText holds
+    allHold flow reading writing floorFlow flowJoin flowJoinHigh containerOf segmentOf gateOf threadOf clearedAt lookBytes overwrite resized orDefault kindCode isLive
+    isThread isGate isSegment isContainer hasClearance blank nothing Σ when any both either leAt leBytes levelAt everyNamed holdsB compareB zerosB wordsB formedB insertW
+    roomB wordsAt labelOf wordsBytes labelBytes
 easy-errors = refl

@@ -6,7 +6,11 @@ use Rattle.labels.specs.Le.{leAt, leBytes}
 use Rattle.labels.specs.Core.{levelAt, everyNamed, holdsB, compareB, zerosB, wordsB, formedB, insertW, roomB, wordsAt, labelOf, wordsBytes, labelBytes}
 use Rattle.quotas.specs.Sum.{Σ, when}
 use Rattle.quotas.specs.Any.{any, both, either}
-use Rattle.rules.specs.Kernel.{createCategory, setLabel, createContainer, createSegment, createThread, unreference, moveQuota, read, resize, start, call, after, tests, judge, must, opens, entry, make, move, access, forbids, fits, spareOf, useOf, charged, units, answerOf, valueOf, outputOf, leaves, apply, put, linkIn, under, below, stays, kept, edit, goodArguments, goodLabel, goodText, holds, allHold, flow, reading, writing, floorFlow, flowJoin, flowJoinHigh, containerOf, segmentOf, gateOf, threadOf, clearedAt, lookBytes, overwrite, resized, orDefault, kindCode, isLive, isThread, isGate, isSegment, isContainer, hasClearance, blank, nothing}
+use Rattle.rules.specs.Kernel.{createCategory, setLabel, createContainer, createSegment, createThread, unreference, moveQuota, read, resize, start, call, after, tests, judge}
+use Rattle.rules.specs.Kernel.{unless, must, whyNot, mustHold, opens, entry, make, move, access, forbids, fits, spareOf, useOf, charged, units, answerOf, valueOf, outputOf, leaves}
+use Rattle.rules.specs.Kernel.{apply, put, linkIn, under, below, stays, kept, edit, goodArguments, goodLabel, goodText, holds, allHold, flow, reading, writing, floorFlow, flowJoin}
+use Rattle.rules.specs.Kernel.{flowJoinHigh, containerOf, segmentOf, gateOf, threadOf, clearedAt, lookBytes, overwrite, resized, orDefault, kindCode, isLive, isThread, isGate}
+use Rattle.rules.specs.Kernel.{isSegment, isContainer, hasClearance, blank, nothing}
 use Rattle.examples.specs.Play.{Turn, Said, Day, turn, said, day, run, played, written, wordsFor, lent, zeros32, into}
 
 plain1 : List ℕ
@@ -64,5 +68,9 @@ pub days : List Day
 days = day 100 turns printed ∷ []
 
 pub grantday : played days ≡ written days
-unfolding days turns printed plain1 plain2 tainted run played written wordsFor lent zeros32 start call after tests judge must opens entry make move access forbids fits spareOf useOf charged units answerOf valueOf outputOf leaves apply put linkIn under below stays kept edit goodArguments goodLabel goodText holds allHold flow reading writing floorFlow flowJoin flowJoinHigh containerOf segmentOf gateOf threadOf clearedAt lookBytes overwrite resized orDefault kindCode isLive isThread isGate isSegment isContainer hasClearance blank nothing Σ when any both either leAt leBytes levelAt everyNamed holdsB compareB zerosB wordsB formedB insertW roomB wordsAt labelOf wordsBytes labelBytes
+unfolding days turns printed plain1 plain2 tainted run played written wordsFor lent zeros32 start call after tests judge unless must whyNot mustHold opens entry make move
+    access forbids fits spareOf useOf charged units answerOf valueOf outputOf leaves apply put linkIn under below stays kept edit goodArguments goodLabel goodText holds
+    allHold flow reading writing floorFlow flowJoin flowJoinHigh containerOf segmentOf gateOf threadOf clearedAt lookBytes overwrite resized orDefault kindCode isLive
+    isThread isGate isSegment isContainer hasClearance blank nothing Σ when any both either leAt leBytes levelAt everyNamed holdsB compareB zerosB wordsB formedB insertW
+    roomB wordsAt labelOf wordsBytes labelBytes
 grantday = refl

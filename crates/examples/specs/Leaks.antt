@@ -11,8 +11,8 @@ use Rattle.labels.specs.Le.{leAt, leBytes}
 use Rattle.labels.specs.Core.{mayRead, levelAt, everyNamed, holdsB, compareB, zerosB, wordsB, formedB, insertW, roomB, wordsAt, labelOf, wordsBytes, labelBytes}
 use Rattle.quotas.specs.Sum.{Σ, when}
 use Rattle.quotas.specs.Any.{any, both, either}
-use Rattle.rules.specs.Kernel.{Obj, World, Call, createCategory, setLabel, createContainer, createSegment, look, Verdict, refuse, grant}
-use Rattle.rules.specs.Kernel.{worldAfter, start, call, after, tests, judge, must, opens, entry, make, move, access, forbids}
+use Rattle.rules.specs.Kernel.{Obj, World, Call, createCategory, setLabel, createContainer, createSegment, look, numberOf, Verdict, refused, refuse, grant}
+use Rattle.rules.specs.Kernel.{worldAfter, start, call, after, tests, judge, unless, must, whyNot, mustHold, opens, entry, make, move, access, forbids}
 use Rattle.rules.specs.Kernel.{fits, spareOf, useOf, charged, units, answerOf, valueOf, outputOf, leaves, apply, put, linkIn, under, below, stays, kept, edit}
 use Rattle.rules.specs.Kernel.{goodArguments, goodLabel, goodText, holds, allHold, flow, reading, writing, floorFlow, flowJoin, flowJoinHigh, containerOf}
 use Rattle.rules.specs.Kernel.{segmentOf, gateOf, threadOf, clearedAt, lookBytes, overwrite, resized, orDefault, kindCode, isLive, isThread, isGate, isSegment}
@@ -61,7 +61,7 @@ unreadable w t (d ∷ ds) = (isContainer ((w .obj d) .kind) && not (mayRead (t .
 
 -- 7 in place of 5 if so
 unfoldable pub instead : Bool → Verdict → Verdict
-instead u (refuse k) = refuse (cond (u && eqb k 5) 7 k)
+instead u (refused r) = cond (u && eqb (numberOf r) 5) (refuse 7) (refused r)
 instead u (grant v b h) = grant v b h
 
 unfoldable pub tellsExistence : Kernel
@@ -71,7 +71,7 @@ tellsExistence w c x = instead (unreadable w (w .obj c) (containersNamed x)) (ca
 
 -- 13 if the store is full
 unfoldable pub crowded : Bool → Verdict → Verdict
-crowded full (refuse k) = refuse k
+crowded full (refused r) = refused r
 crowded full (grant v b h) = cond full (refuse 13) (grant v b h)
 
 -- a kernel with room for six objects
@@ -88,7 +88,7 @@ record Asked : Type 0 where
 
 asked : Asked
 unfolding tellsExistence instead unreadable containersNamed tellsRoom crowded raised then morning noon plainly dim dark cleared untainted untaintedCaller
-    taintedCaller wordsFor lent zeros32 worldAfter start call after tests judge must opens entry make move access forbids fits spareOf useOf charged units
+    taintedCaller wordsFor lent zeros32 worldAfter start call after tests judge unless must whyNot mustHold opens entry make move access forbids fits spareOf useOf charged units
     answerOf valueOf outputOf leaves apply put linkIn under below stays kept edit goodArguments goodLabel goodText holds allHold flow reading writing
     floorFlow flowJoin flowJoinHigh containerOf segmentOf gateOf threadOf clearedAt lookBytes overwrite resized orDefault kindCode isLive isThread isGate
     isSegment isContainer hasClearance blank nothing Σ when any both either leAt leBytes levelAt everyNamed holdsB compareB zerosB wordsB formedB insertW

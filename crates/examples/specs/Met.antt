@@ -11,7 +11,11 @@ use Rattle.labels.specs.Le.{leAt, leBytes}
 use Rattle.labels.specs.Core.{levelAt, everyNamed, holdsB, compareB, zerosB, wordsB, formedB, insertW, roomB, wordsAt, labelOf, wordsBytes, labelBytes}
 use Rattle.quotas.specs.Sum.{Σ, when}
 use Rattle.quotas.specs.Any.{any, both, either}
-use Rattle.rules.specs.Kernel.{Call, createCategory, setLabel, createContainer, createSegment, createThread, unreference, moveQuota, read, write, resize, History, started, next, worldAfter, startable, start, call, after, tests, judge, must, opens, entry, make, move, access, forbids, fits, spareOf, useOf, holdOf, charged, units, answerOf, leaves, apply, put, linkIn, under, below, stays, kept, edit, goodArguments, goodLabel, goodText, holds, allHold, flow, reading, writing, floorFlow, flowJoin, flowJoinHigh, containerOf, segmentOf, gateOf, threadOf, clearedAt, overwrite, resized, orDefault, kindCode, isLive, isThread, isGate, isSegment, isContainer, hasClearance, blank, nothing}
+use Rattle.rules.specs.Kernel.{Call, createCategory, setLabel, createContainer, createSegment, createThread, unreference, moveQuota, read, write, resize, History, started, next}
+use Rattle.rules.specs.Kernel.{worldAfter, startable, start, call, after, tests, judge, unless, must, whyNot, mustHold, opens, entry, make, move, access, forbids, fits, spareOf}
+use Rattle.rules.specs.Kernel.{useOf, holdOf, charged, units, answerOf, leaves, apply, put, linkIn, under, below, stays, kept, edit, goodArguments, goodLabel, goodText, holds}
+use Rattle.rules.specs.Kernel.{allHold, flow, reading, writing, floorFlow, flowJoin, flowJoinHigh, containerOf, segmentOf, gateOf, threadOf, clearedAt, overwrite, resized}
+use Rattle.rules.specs.Kernel.{orDefault, kindCode, isLive, isThread, isGate, isSegment, isContainer, hasClearance, blank, nothing}
 use Rattle.rules.specs.Sound.{Sound}
 use Rattle.rules.specs.Histories.{firstWorld, WellStarted}
 use Rattle.rules.specs.Ledger.{lineIf, lineOf, granted, grantedBy, charge, chargeBy, reckoned, takesUnits, askedOf, unitsAsked, refusedEarlier, writer, Meanwhile, nothingYet, another}
@@ -158,7 +162,12 @@ pub record OfTheDay : Type 0 where
   pub no-segment : any (worldAfter gone .next) (λ o. isSegment ((worldAfter gone .obj o) .kind)) ≡ false
 
 pub of-the-day : OfTheDay
-unfolding wholeDay filled oneMore gone noted crowding fill granting grown morning room list reckoned granted grantedBy charge chargeBy lineIf lineOf lastWritten leftBy holdOf one two tainted wordsFor lent zeros32 worldAfter start call after tests judge must opens entry make move access forbids fits spareOf useOf charged units answerOf leaves apply put linkIn under below stays kept edit goodArguments goodLabel goodText holds allHold flow reading writing floorFlow flowJoin flowJoinHigh containerOf segmentOf gateOf threadOf clearedAt overwrite resized orDefault kindCode isLive isThread isGate isSegment isContainer hasClearance blank nothing Σ when any both either leAt leBytes levelAt everyNamed holdsB compareB zerosB wordsB formedB insertW roomB wordsAt labelOf wordsBytes labelBytes refusedEarlier bytesB
+unfolding wholeDay filled oneMore gone noted crowding fill granting grown morning room list reckoned granted grantedBy charge chargeBy lineIf lineOf lastWritten leftBy
+    holdOf one two tainted wordsFor lent zeros32 worldAfter start call after tests judge unless must whyNot mustHold opens entry make move access forbids fits spareOf
+    useOf charged units answerOf leaves apply put linkIn under below stays kept edit goodArguments goodLabel goodText holds allHold flow reading writing floorFlow
+    flowJoin flowJoinHigh containerOf segmentOf gateOf threadOf clearedAt overwrite resized orDefault kindCode isLive isThread isGate isSegment isContainer hasClearance
+    blank nothing Σ when any both either leAt leBytes levelAt everyNamed holdsB compareB zerosB wordsB formedB insertW roomB wordsAt labelOf wordsBytes labelBytes
+    refusedEarlier bytesB
 of-the-day =
     record {
       is-container = refl;
@@ -186,7 +195,11 @@ of-the-day =
     }
 
 pub met : Met
-unfolding granting grown morning room list crowding fill takeBack reckoned granted grantedBy charge chargeBy lineIf lineOf refusedEarlier writer one two tainted wordsFor lent zeros32 worldAfter start call after tests judge must opens entry make move access forbids fits spareOf useOf charged units answerOf leaves apply put linkIn under below stays kept edit goodArguments goodLabel goodText holds allHold flow reading writing floorFlow flowJoin flowJoinHigh containerOf segmentOf gateOf threadOf clearedAt overwrite resized orDefault kindCode isLive isThread isGate isSegment isContainer hasClearance blank nothing Σ when any both either leAt leBytes levelAt everyNamed holdsB compareB zerosB wordsB formedB insertW roomB wordsAt labelOf wordsBytes labelBytes
+unfolding granting grown morning room list crowding fill takeBack reckoned granted grantedBy charge chargeBy lineIf lineOf refusedEarlier writer one two tainted wordsFor
+    lent zeros32 worldAfter start call after tests judge unless must whyNot mustHold opens entry make move access forbids fits spareOf useOf charged units answerOf leaves
+    apply put linkIn under below stays kept edit goodArguments goodLabel goodText holds allHold flow reading writing floorFlow flowJoin flowJoinHigh containerOf segmentOf
+    gateOf threadOf clearedAt overwrite resized orDefault kindCode isLive isThread isGate isSegment isContainer hasClearance blank nothing Σ when any both either leAt
+    leBytes levelAt everyNamed holdsB compareB zerosB wordsB formedB insertW roomB wordsAt labelOf wordsBytes labelBytes
 met =
     record {
       room = refl;

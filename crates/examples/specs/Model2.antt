@@ -5,7 +5,7 @@ use Rattle.labels.specs.Le.{leAt, leBytes}
 use Rattle.labels.specs.Core.{levelAt, everyNamed, holdsB, compareB, zerosB, wordsB, formedB, insertW, roomB, wordsAt, labelOf, wordsBytes, labelBytes}
 use Rattle.quotas.specs.Sum.{Σ, when}
 use Rattle.quotas.specs.Any.{any, both, either}
-use Rattle.rules.specs.Kernel.{createCategory, setLabel, setClearance, createContainer, createSegment, createGate, createThread, unreference, linkSegment, fixQuota, moveQuota, read, write, resize, enterGate, look, start, call, after, tests, judge, must, opens, entry, make, move, access, forbids, fits, spareOf, useOf, charged, units, answerOf, valueOf, outputOf, leaves, apply, put, linkIn, under, below, stays, kept, edit, goodArguments, goodLabel, goodText, holds, allHold, flow, reading, writing, floorFlow, flowJoin, flowJoinHigh, containerOf, segmentOf, gateOf, threadOf, clearedAt, lookBytes, overwrite, resized, orDefault, kindCode, isLive, isThread, isGate, isSegment, isContainer, hasClearance, blank, nothing}
+use Rattle.rules.specs.Kernel.{createCategory, setLabel, setClearance, createContainer, createSegment, createGate, createThread, unreference, linkSegment, fixQuota, moveQuota, read, write, resize, enterGate, look, start, call, after, tests, judge, unless, must, whyNot, mustHold, opens, entry, make, move, access, forbids, fits, spareOf, useOf, charged, units, answerOf, valueOf, outputOf, leaves, apply, put, linkIn, under, below, stays, kept, edit, goodArguments, goodLabel, goodText, holds, allHold, flow, reading, writing, floorFlow, flowJoin, flowJoinHigh, containerOf, segmentOf, gateOf, threadOf, clearedAt, lookBytes, overwrite, resized, orDefault, kindCode, isLive, isThread, isGate, isSegment, isContainer, hasClearance, blank, nothing}
 use Rattle.examples.specs.Play.{Turn, Said, Day, turn, said, day, run, played, written, wordsFor, lent, zeros32, into, back}
 
 -- Creates with malformed arguments
@@ -409,5 +409,5 @@ days =
     ∷ []
 
 pub model-agrees : played days ≡ written days
-unfolding days h11 h11-said h12 h12-said h13 h13-said h14 h14-said h15 h15-said h16 h16-said h17 h17-said h18 h18-said h19 h19-said h20 h20-said run played written wordsFor lent zeros32 start call after tests judge must opens entry make move access forbids fits spareOf useOf charged units answerOf valueOf outputOf leaves apply put linkIn under below stays kept edit goodArguments goodLabel goodText holds allHold flow reading writing floorFlow flowJoin flowJoinHigh containerOf segmentOf gateOf threadOf clearedAt lookBytes overwrite resized orDefault kindCode isLive isThread isGate isSegment isContainer hasClearance blank nothing Σ when any both either leAt leBytes levelAt everyNamed holdsB compareB zerosB wordsB formedB insertW roomB wordsAt labelOf wordsBytes labelBytes
+unfolding days h11 h11-said h12 h12-said h13 h13-said h14 h14-said h15 h15-said h16 h16-said h17 h17-said h18 h18-said h19 h19-said h20 h20-said run played written wordsFor lent zeros32 start call after tests judge unless must whyNot mustHold opens entry make move access forbids fits spareOf useOf charged units answerOf valueOf outputOf leaves apply put linkIn under below stays kept edit goodArguments goodLabel goodText holds allHold flow reading writing floorFlow flowJoin flowJoinHigh containerOf segmentOf gateOf threadOf clearedAt lookBytes overwrite resized orDefault kindCode isLive isThread isGate isSegment isContainer hasClearance blank nothing Σ when any both either leAt leBytes levelAt everyNamed holdsB compareB zerosB wordsB formedB insertW roomB wordsAt labelOf wordsBytes labelBytes
 model-agrees = refl

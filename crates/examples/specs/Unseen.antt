@@ -15,7 +15,7 @@ use Rattle.labels.specs.Core.{at, star, levelAt, everyNamed, holdsB, compareB, 
 use Rattle.quotas.specs.Sum.{Σ, when}
 use Rattle.quotas.specs.Any.{any, any-of, both, either}
 use Rattle.rules.specs.Kernel.{Obj, World, Call, createCategory, setLabel, createContainer, createSegment, createThread, unreference, read, write, resize, look}
-use Rattle.rules.specs.Kernel.{History, started, next, worldAfter, startable, start, call, after, tests, judge, must, opens, entry, make, move, access, forbids}
+use Rattle.rules.specs.Kernel.{History, started, next, worldAfter, startable, start, call, after, tests, judge, unless, must, whyNot, mustHold, opens, entry, make, move, access, forbids}
 use Rattle.rules.specs.Kernel.{fits, spareOf, useOf, charged, units, answerOf, valueOf, outputOf, leaves, apply, put, linkIn, under, below, stays, kept, edit}
 use Rattle.rules.specs.Kernel.{goodArguments, goodLabel, goodText, holds, allHold, flow, reading, writing, floorFlow, flowJoin, flowJoinHigh, containerOf}
 use Rattle.rules.specs.Kernel.{segmentOf, gateOf, threadOf, clearedAt, lookBytes, overwrite, resized, orDefault, kindCode, isLive, isThread, isGate, isSegment}
@@ -209,7 +209,7 @@ pub record Computed : Type 0 where
 
 pub computed : Computed
 unfolding sides morning noon plainly dim dark cleared hiddenThread plainRoot left-said right-said holdsStar strays someStar someStray byTainted lefts rights end
-    run untainted untaintedContainer untaintedCaller taintedCaller wordsFor lent zeros32 worldAfter start call after tests judge must opens entry make move access forbids
+    run untainted untaintedContainer untaintedCaller taintedCaller wordsFor lent zeros32 worldAfter start call after tests judge unless must whyNot mustHold opens entry make move access forbids
     fits spareOf useOf charged units answerOf valueOf outputOf leaves apply put linkIn under below stays kept edit goodArguments goodLabel goodText holds
     allHold flow reading writing floorFlow flowJoin flowJoinHigh containerOf segmentOf gateOf threadOf clearedAt lookBytes overwrite resized orDefault
     kindCode isLive isThread isGate isSegment isContainer hasClearance blank nothing Σ when any both either leAt leBytes levelAt everyNamed holdsB

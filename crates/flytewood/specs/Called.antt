@@ -6,7 +6,7 @@ use mathlib.Core.Path.{_≡_}
 use mathlib.Core.List.{List, []}
 use lib.ListN.{getD, take, drop}
 use lib.Dec.{eqb}
-use Rattle.rules.specs.Kernel.{Call, Verdict, refuse, grant, read, answerOf, valueOf}
+use Rattle.rules.specs.Kernel.{Call, Verdict, refused, grant, read, answerOf, valueOf}
 use Rattle.tables.specs.Layout.{view}
 use Rattle.calls.specs.Read.{placeIn}
 use Rattle.calls.specs.Outcome.{verdictOn, outputLeft, Left}
@@ -44,11 +44,11 @@ pub record Started (b area : List ℕ) (f answer : ℕ) (b′ area′ : List ℕ
 
 -- both are 0 for an empty part and on a refusal
 unfoldable pub placeGiven : Verdict → ℕ → ℕ → ℕ
-placeGiven (refuse k) n p = 0
+placeGiven (refused r) n p = 0
 placeGiven (grant v o h) n p = cond (eqb n 0) 0 p
 
 unfoldable pub countGiven : Verdict → ℕ → ℕ
-countGiven (refuse k) n = 0
+countGiven (refused r) n = 0
 countGiven (grant v o h) n = n
 
 -- The exported read: what is handed out is the `count` bytes of the data area from `place` on.

@@ -8,7 +8,7 @@ use lib.Dec.{eqb}
 use borrow.Author.Tests.{eqb-true}
 use mir.Syntax.{w8}
 use mir.Val.{Fits}
-use Rattle.rules.specs.Kernel.{Call, Verdict, refuse, grant, answerOf, valueOf, outputOf}
+use Rattle.rules.specs.Kernel.{Call, Verdict, refused, grant, answerOf, valueOf, outputOf}
 use Rattle.rules.specs.Answers.{outputSize}
 use Rattle.rules.specs.Laws.Bools.{bool-cases}
 use Rattle.rules.specs.Theorems.Outputs.{no-output}
@@ -40,7 +40,7 @@ starts b area f answer b′ area′ s t u = record { made = s; book-bytes = type
 -- what an empty output becomes is the rules' output
 pub handed-out : (v : Verdict) → outputLeft v [] ≡ outputOf v
 unfolding outputLeft outputOf
-handed-out (refuse k) = refl
+handed-out (refused r) = refl
 handed-out (grant v o h) = refl
 
 module _ (b area : List ℕ) (c : ℕ) (x : Call) (r : Answer) (b′ area′ : List ℕ) (answer value : ℕ) (e : answer ≡ numberOf r) (f : value ≡ valueIn r)
@@ -67,19 +67,19 @@ module _ (b area : List ℕ) (c : ℕ) (x : Call) (r : Answer) (b′ area′ : L
 
 module _ (b area : List ℕ) (c d s k f n : ℕ) (b′ : List ℕ) (book-typed : Typed b′) (area-typed : Typed area) where
   -- refused
-  pub read-refused : (m : ℕ) → NoPart b area c d s k f n b′ m → ReadAs b area c d s k f n m 0 0 0 b′ area
-  unfolding answerOf valueOf outputLeft placeGiven countGiven
-  read-refused m x =
+  pub read-refused : (a : Answer) (m y : ℕ) → m ≡ numberOf a → y ≡ valueIn a → NoPart b area c d s k f n b′ a → ReadAs b area c d s k f n m y 0 0 b′ area
+  unfolding outputLeft placeGiven countGiven
+  read-refused a m y i j x =
       record {
         called =
             record {
-              said = record { answer-is = rw (x .refused); value-is = rw (x .refused); left = x .left };
-              output = rw (x .refused);
+              said = record { answer-is = i ∙ x .done .answer; value-is = j ∙ x .done .value; left = x .done .left };
+              output = rw (x .verdict);
               book-bytes = typed-bytes b′ book-typed;
               area-bytes = typed-bytes area area-typed;
             };
-        place-is = rw (x .refused);
-        count-is = rw (x .refused);
+        place-is = rw (x .verdict);
+        count-is = rw (x .verdict);
       }
 
   empty-part : (m p q : ℕ) → eqb m 0 ≡ true → take m (drop p area) ≡ take m (drop q area)

@@ -6,9 +6,7 @@ ghost use lib.Dec.{eqb};
 ghost use lib.ListN.{length};
 ghost use Rattle.rules.specs.Kernel as kernel;
 ghost use Rattle.tables.specs.Layout.{size};
-ghost use Rattle.calls.specs.Outcome.{numberOf, valueIn};
 ghost use Rattle.flytewood.specs.Called.{Called, Started, ReadAs};
-use calls::Answer;
 use calls::create_category::create_category;
 use calls::create_container::create_container;
 use calls::create_gate::create_gate;
@@ -24,26 +22,11 @@ use calls::read::locate;
 use calls::resize::resize;
 use calls::set_clearance::set_clearance;
 use calls::set_label::set_label;
+use calls::spread::spread;
 use calls::start::start;
 use calls::unreference::unreference;
 use calls::write::write;
 use tables::BOOK_LEN;
-
-// Spreads an answer into its number (RULES 6) and value.
-fn spread(answer: Answer, value: &mut u64) -> u64
-    ensures { λ r. ⌜ (r ≡ numberOf answer) × (now (value .exit) ≡ valueIn answer) ⌝ }
-{
-    match answer {
-        Answer::Granted(v) => {
-            *value = v;
-            0
-        }
-        Answer::Refused(k) => {
-            *value = 0;
-            k
-        }
-    }
-}
 
 // The book's one length.
 #[no_mangle]
@@ -115,7 +98,9 @@ pub extern "C" fn fw_create_container(
     quota: u64,
     value: &mut u64,
 ) -> u64
-    ensures { λ r. ⌜ Called (now (b .entry)) (now (area .entry)) caller (kernel.createContainer d (now (label .entry)) (now (description .entry)) mask quota) [] r (now (value .exit)) (now (b .exit)) (now (area .exit)) [] ⌝ }
+    ensures { λ r. ⌜ Called (now (b .entry)) (now (area .entry)) caller
+        (kernel.createContainer d (now (label .entry)) (now (description .entry)) mask quota)
+        [] r (now (value .exit)) (now (b .exit)) (now (area .exit)) [] ⌝ }
 {
     spread(
         create_container(b, area, caller, d, label, description, mask, quota),
@@ -135,7 +120,9 @@ pub extern "C" fn fw_create_segment(
     quota: u64,
     value: &mut u64,
 ) -> u64
-    ensures { λ r. ⌜ Called (now (b .entry)) (now (area .entry)) caller (kernel.createSegment d (now (label .entry)) (now (description .entry)) quota) [] r (now (value .exit)) (now (b .exit)) (now (area .exit)) [] ⌝ }
+    ensures { λ r. ⌜ Called (now (b .entry)) (now (area .entry)) caller
+        (kernel.createSegment d (now (label .entry)) (now (description .entry)) quota)
+        [] r (now (value .exit)) (now (b .exit)) (now (area .exit)) [] ⌝ }
 {
     spread(
         create_segment(b, area, caller, d, label, description, quota),
@@ -157,7 +144,9 @@ pub extern "C" fn fw_create_gate(
     description: &[u8],
     value: &mut u64,
 ) -> u64
-    ensures { λ r. ⌜ Called (now (b .entry)) (now (area .entry)) caller (kernel.createGate d (now (label .entry)) (now (clearance .entry)) number (now (closure .entry)) (now (description .entry))) [] r (now (value .exit)) (now (b .exit)) (now (area .exit)) [] ⌝ }
+    ensures { λ r. ⌜ Called (now (b .entry)) (now (area .entry)) caller
+        (kernel.createGate d (now (label .entry)) (now (clearance .entry)) number (now (closure .entry)) (now (description .entry)))
+        [] r (now (value .exit)) (now (b .exit)) (now (area .exit)) [] ⌝ }
 {
     spread(
         create_gate(
@@ -187,7 +176,9 @@ pub extern "C" fn fw_create_thread(
     description: &[u8],
     value: &mut u64,
 ) -> u64
-    ensures { λ r. ⌜ Called (now (b .entry)) (now (area .entry)) caller (kernel.createThread d (now (label .entry)) (now (clearance .entry)) (now (description .entry))) [] r (now (value .exit)) (now (b .exit)) (now (area .exit)) [] ⌝ }
+    ensures { λ r. ⌜ Called (now (b .entry)) (now (area .entry)) caller
+        (kernel.createThread d (now (label .entry)) (now (clearance .entry)) (now (description .entry)))
+        [] r (now (value .exit)) (now (b .exit)) (now (area .exit)) [] ⌝ }
 {
     spread(
         create_thread(b, area, caller, d, label, clearance, description),
@@ -306,7 +297,9 @@ pub extern "C" fn fw_enter_gate(
     out: &mut [u8],
     value: &mut u64,
 ) -> u64
-    ensures { λ r. ⌜ Called (now (b .entry)) (now (area .entry)) caller (kernel.enterGate d g (now (given .entry)) (now (cleared .entry)) (now (verify .entry)) (length (now (out .entry)))) (now (out .entry)) r (now (value .exit)) (now (b .exit)) (now (area .exit)) (now (out .exit)) ⌝ }
+    ensures { λ r. ⌜ Called (now (b .entry)) (now (area .entry)) caller
+        (kernel.enterGate d g (now (given .entry)) (now (cleared .entry)) (now (verify .entry)) (length (now (out .entry))))
+        (now (out .entry)) r (now (value .exit)) (now (b .exit)) (now (area .exit)) (now (out .exit)) ⌝ }
 {
     spread(
         enter_gate(b, area, caller, d, g, given, cleared, verify, out),
@@ -325,7 +318,9 @@ pub extern "C" fn fw_look(
     out: &mut [u8],
     value: &mut u64,
 ) -> u64
-    ensures { λ r. ⌜ Called (now (b .entry)) (now (area .entry)) caller (kernel.look d o (length (now (out .entry)))) (now (out .entry)) r (now (value .exit)) (now (b .exit)) (now (area .exit)) (now (out .exit)) ⌝ }
+    ensures { λ r. ⌜ Called (now (b .entry)) (now (area .entry)) caller
+        (kernel.look d o (length (now (out .entry))))
+        (now (out .entry)) r (now (value .exit)) (now (b .exit)) (now (area .exit)) (now (out .exit)) ⌝ }
 {
     spread(look(b, area, caller, d, o, out), value)
 }
@@ -357,17 +352,17 @@ pub extern "C" fn fw_read(
 ) -> u64
     ensures { λ r. ⌜ ReadAs (now (b .entry)) (now (area .entry)) caller d s k from count r (now (value .exit)) (now (place .exit)) (now (length .exit)) (now (b .exit)) (now (area .exit)) ⌝ }
 {
-    *value = 0;
     match locate(b, area, caller, d, s, k, from, count) {
         Located::At(p, n) => {
+            *value = 0;
             *place = place_given(p, n);
             *length = n as u64;
             0
         }
-        Located::Off(n) => {
+        Located::Off(refused) => {
             *place = 0;
             *length = 0;
-            n
+            spread(refused, value)
         }
     }
 }

@@ -147,7 +147,8 @@ fn morning(b: &mut [u8], area: &mut [u8], one: &[u8], two: &[u8], tainted: &[u8]
 }
 
 fn evening(b: &mut [u8], area: &mut [u8], one: &[u8], tainted: &[u8], text: &[u8])
-    ensures { λ _. ⌜ Plays (λ h. freed (kept (crowded h (now (one .entry)) (now (tainted .entry)) (now (text .entry))) (now (tainted .entry)) (now (text .entry)))) (now (b .entry)) (now (area .entry)) (now (b .exit)) (now (area .exit)) ⌝ }
+    ensures { λ _. ⌜ Plays (λ h. freed (kept (crowded h (now (one .entry)) (now (tainted .entry)) (now (text .entry))) (now (tainted .entry)) (now (text .entry)))) (now (b .entry))
+        (now (area .entry)) (now (b .exit)) (now (area .exit)) ⌝ }
 {
     crowds(b, area, one, tainted, text);
     keeps(b, area, tainted, text);

@@ -23,7 +23,8 @@ use Rattle.book.specs.Laws.WorldSound.{placed}
 use Rattle.examples.specs.Met.{granting, grown, crowding, filled, noted, gone, fill, takeBack, oneMore, met, of-the-day}
 use Rattle.flytewood.specs.Called.{Bytes, Called}
 use Rattle.histories.specs.Areas.{world, After}
-use Rattle.histories.specs.Theorems.{demand-1, next-as-ruled, spells-the-world, clearing-shows, stays-sound, tree-holds, reckoned-is-the-spare, reads-show, granted-exactly, shrinks-by, room-kept, list-can-grow}
+use Rattle.histories.specs.Theorems.{demand-1, next-as-ruled, spells-the-world, clearing-shows, stays-sound, tree-holds, reckoned-is-the-spare, reads-show, granted-exactly}
+use Rattle.histories.specs.Theorems.{shrinks-by, room-kept, list-can-grow}
 
 -- call 107's container, as the areas have it
 job-room : (b area : List ℕ) → After granting b area → isContainer ((world b area .obj 103) .kind) ≡ true

@@ -9,7 +9,8 @@ use lib.ListN.{length, getD}
 use lib.Dec.{eqb, leb}
 use borrow.Author.Tests.{eqb-true}
 use Rattle.quotas.specs.Sum.{Σ, when}
-use Rattle.rules.specs.Kernel.{World, Call, read, resize, isLive, isContainer, isSegment, units, holdOf, spareOf, startable, call, after, answerOf, valueOf, Verdict, History, beginning, start, started, next, worldAfter, blockSize}
+use Rattle.rules.specs.Kernel.{World, Call, read, resize, isLive, isContainer, isSegment, units, holdOf, spareOf, startable, call, after, answerOf, valueOf, Verdict, History}
+use Rattle.rules.specs.Kernel.{beginning, start, started, next, worldAfter, blockSize}
 use Rattle.rules.specs.Answers.{oneOf}
 use Rattle.rules.specs.Trees.{inTree}
 use Rattle.rules.specs.Written.{lastWritten}

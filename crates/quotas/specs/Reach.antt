@@ -77,7 +77,8 @@ module _ (v : View) (n m root : ℕ) (s : Sound v n m root) (blocks : ℕ) (used
           omega (
             arith,
             when-false (v .live r) 1 e,
-            sum-none blocks (λ b. when (used b) (when (eqb (own b) r) 1)) (λ b i. when-none (used b) _ (λ u. when-false (eqb (own b) r) 1 (ne-eqb (own b) r (λ q. no-both (v .live (own b)) (k .owned b i u .1) (ap (v .live) q ∙ e))))),
+            sum-none blocks (λ b. when (used b) (when (eqb (own b) r) 1))
+                (λ b i. when-none (used b) _ (λ u. when-false (eqb (own b) r) 1 (ne-eqb (own b) r (λ q. no-both (v .live (own b)) (k .owned b i u .1) (ap (v .live) q ∙ e))))),
           )
 
   -- blocks in use, the root's own unit, and what one segment may still grow by, are within the root's quota

@@ -6,7 +6,8 @@ use native.Mathlib.Omega.{arith}
 use lib.Dec.{eqb}
 use borrow.Author.Tests.{eqb-true, eqb-false, eq-eqb, ne-eqb}
 use Rattle.quotas.specs.Any.{no-both}
-use Rattle.quotas.specs.Sum.{Σ, when, sum-cong, sum-mono, sum-add, sum-none, sum-swap, sum-term, sum-point, sum-when, sum-const2, sum-pick, when-true, when-false, when-cong, when-none, when-add, when-swap, when-split, when-le}
+use Rattle.quotas.specs.Sum.{Σ, when, sum-cong, sum-mono, sum-add, sum-none, sum-swap, sum-term, sum-point, sum-when, sum-const2, sum-pick, when-true, when-false, when-cong}
+use Rattle.quotas.specs.Sum.{when-none, when-add, when-swap, when-split, when-le}
 
 pub record View : Type 0 where
   -- row r is live; is a live container
@@ -104,7 +105,10 @@ module _ (v : View) (n m root : ℕ) (s : Sound v n m root) (S : ℕ → Bool) (
     arith,
     when-false (S c) (g c) e,
     when-false (eqb c d) (g c) (ne-eqb c d (λ q. no-both (S c) (subst (λ (k : ℕ). S k ≡ true) (sym q) (p .top)) e)),
-    sum-none m (λ l. when (eqb (v .obj l) c) (inner v S g l)) (λ l h. when-none (eqb (v .obj l) c) (inner v S g l) (λ q. when-none (v .on l) _ (λ on. when-none (S (v .par l)) _ (λ ins. when-none (v .con (v .obj l)) _ (λ isC. absurd (no-both (S c) (subst (λ (k : ℕ). S k ≡ true) (eqb-true (v .obj l) c q) (p .down l h on ins isC)) e)))))),
+    sum-none m (λ l. when (eqb (v .obj l) c) (inner v S g l))
+        (λ l h. when-none (eqb (v .obj l) c) (inner v S g l) (λ q. when-none (v .on l) _
+        (λ on. when-none (S (v .par l)) _ (λ ins. when-none (v .con (v .obj l)) _ (λ isC.
+        absurd (no-both (S c) (subst (λ (k : ℕ). S k ≡ true) (eqb-true (v .obj l) c q) (p .down l h on ins isC)) e)))))),
   )
 
   row-top : (c : ℕ) → c ≡ d → when (S c) (g c) ≡ at-row c
@@ -113,7 +117,8 @@ module _ (v : View) (n m root : ℕ) (s : Sound v n m root) (S : ℕ → Bool) (
     arith,
     when-true (S c) (g c) (subst (λ (k : ℕ). S k ≡ true) (sym e) (p .top)),
     when-true (eqb c d) (g c) (eq-eqb c d e),
-    sum-none m (λ l. when (eqb (v .obj l) c) (inner v S g l)) (λ l h. when-none (eqb (v .obj l) c) (inner v S g l) (λ q. when-none (v .on l) _ (λ on. when-none (S (v .par l)) _ (λ ins. absurd (p .over l h on (eqb-true (v .obj l) c q ∙ e) ins))))),
+    sum-none m (λ l. when (eqb (v .obj l) c) (inner v S g l))
+        (λ l h. when-none (eqb (v .obj l) c) (inner v S g l) (λ q. when-none (v .on l) _ (λ on. when-none (S (v .par l)) _ (λ ins. absurd (p .over l h on (eqb-true (v .obj l) c q ∙ e) ins))))),
   )
 
   row-in : (c : ℕ) → c < n → S c ≡ true → (c ≡ d → ⊥) → when (S c) (g c) ≡ at-row c
@@ -153,7 +158,13 @@ module _ (v : View) (n m root : ℕ) (s : Sound v n m root) (S : ℕ → Bool) (
   by-links =
       sum-cong n _ at-row row
       ∙ sum-add n (λ c. when (eqb c d) (g c)) (λ c. Σ m (λ l. when (eqb (v .obj l) c) (inner v S g l)))
-      ∙ omega (arith, sum-point n g d (p .top-in), sum-swap n m (λ c l. when (eqb (v .obj l) c) (inner v S g l)), sum-cong m (λ l. Σ n (λ c. when (eqb (v .obj l) c) (inner v S g l))) (inner v S g) each)
+      ∙ omega (
+        arith,
+        sum-point n g d (p .top-in),
+        sum-swap n m (λ c l. when (eqb (v .obj l) c) (inner v S g l)),
+        sum-cong m
+            (λ l. Σ n (λ c. when (eqb (v .obj l) c) (inner v S g l))) (inner v S g) each,
+      )
     where
       each : (l : ℕ) → l < m → Σ n (λ c. when (eqb (v .obj l) c) (inner v S g l)) ≡ inner v S g l
       each l h = by-on (v .on l) refl
@@ -180,7 +191,8 @@ module _ (v : View) (n m root : ℕ) (s : Sound v n m root) (S : ℕ → Bool) (
   kept-by-links : Σ n (λ c. when (S c) (linked v m c)) ≡ Σ m hangs
   unfolding linked hangs
   kept-by-links =
-      sum-cong n _ (λ c. Σ m (λ l. when (S c) (when (v .on l) (when (eqb (v .par l) c) (v .quota (v .obj l)))))) (λ c k. sym (sum-when m (S c) (λ l. when (v .on l) (when (eqb (v .par l) c) (v .quota (v .obj l))))))
+      sum-cong n _ (λ c. Σ m (λ l. when (S c) (when (v .on l) (when (eqb (v .par l) c) (v .quota (v .obj l))))))
+      (λ c k. sym (sum-when m (S c) (λ l. when (v .on l) (when (eqb (v .par l) c) (v .quota (v .obj l))))))
       ∙ sum-swap n m (λ c l. when (S c) (when (v .on l) (when (eqb (v .par l) c) (v .quota (v .obj l)))))
       ∙ sum-cong m (λ l. Σ n (λ c. when (S c) (when (v .on l) (when (eqb (v .par l) c) (v .quota (v .obj l)))))) hangs each
     where

@@ -5,7 +5,8 @@ use mathlib.Core.Bool.{Bool, false, _||_}
 use mathlib.Core.Path.{_≡_}
 use mathlib.Core.List.{List, [], _∷_}
 use lib.Dec.{eqb}
-use Rattle.rules.specs.Kernel.{World, Call, createCategory, setLabel, setClearance, createContainer, createSegment, createGate, createThread, unreference, linkSegment, fixQuota, moveQuota, read, write, resize, enterGate, look, Change, apply, grant, call, valueOf, outputOf, after, textSize, lookSize}
+use Rattle.rules.specs.Kernel.{World, Call, createCategory, setLabel, setClearance, createContainer, createSegment, createGate, createThread, unreference, linkSegment}
+use Rattle.rules.specs.Kernel.{fixQuota, moveQuota, read, write, resize, enterGate, look, Change, apply, grant, call, valueOf, outputOf, after, textSize, lookSize}
 
 -- k stands in the list
 unfoldable pub oneOf : ℕ → List ℕ → Bool

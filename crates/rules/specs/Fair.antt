@@ -7,7 +7,8 @@ use lib.ListN.{length}
 use lib.Bits.{bitOr}
 use Rattle.labels.specs.declared.Label.{Label}
 use Rattle.labels.specs.Core.{wellFormed, flows, wordCount}
-use Rattle.rules.specs.Kernel.{isLive, isThread, isSegment, isContainer, hasClearance, Obj, World, relabel, fix, requota, rewrite, Change, keep, alter, create, cut, link, units, useOf, maxLength}
+use Rattle.rules.specs.Kernel.{isLive, isThread, isSegment, isContainer, hasClearance, Obj, World, relabel, fix, requota, rewrite, Change, keep, alter, create, cut, link}
+use Rattle.rules.specs.Kernel.{units, useOf, maxLength}
 use Rattle.rules.specs.Sound.{InRange, Formed}
 
 -- what soundness says of one object alone, against the number n

@@ -6,7 +6,8 @@ use mathlib.Core.Path.{_≡_}
 use mathlib.Core.List.{List, [], _∷_}
 use lib.ListN.{length, getD}
 use lib.Dec.{eqb, leb}
-use Rattle.rules.specs.Kernel.{World, isLive, Call, createCategory, setLabel, setClearance, createContainer, createSegment, createGate, createThread, unreference, linkSegment, fixQuota, moveQuota, read, write, resize, enterGate, look, call, answerOf, valueOf, History, beginning, next, worldAfter}
+use Rattle.rules.specs.Kernel.{World, isLive, Call, createCategory, setLabel, setClearance, createContainer, createSegment, createGate, createThread, unreference}
+use Rattle.rules.specs.Kernel.{linkSegment, fixQuota, moveQuota, read, write, resize, enterGate, look, call, answerOf, valueOf, History, beginning, next, worldAfter}
 
 -- the calls as docs/RULES.md counts them: rule 8.n is call n
 unfoldable pub callNumber : Call → ℕ

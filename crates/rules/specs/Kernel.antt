@@ -355,15 +355,41 @@ flowJoinHigh x y z = record { rule = FlowsJoinHigh; x = x; y = y; z = z }
 
 -- ---- refusals in order of check
 
--- refused by a number, or granted with a value, output bytes and a change
+-- what a refused call is told: a number
+pub data Refusal : Type 0 where
+  by : (number : ℕ) → Refusal
+
+abbrev pub numberOf : Refusal → ℕ
+numberOf (by k) = k
+
+-- RULES 6.14: "A refused call has value 0."
+abbrev pub valueWith : Refusal → ℕ
+valueWith (by k) = 0
+
+-- refused, or granted with a value, output bytes and a change
 pub data Verdict : Type 0 where
-  refuse : (number : ℕ) → Verdict
+  refused : Refusal → Verdict
   grant : (value : ℕ) (output : List ℕ) → Change → Verdict
 
--- RULES 6: "The first number that applies is the answer." Unless the test holds, refused by k.
+abbrev pub refuse : ℕ → Verdict
+refuse k = refused (by k)
+
+-- RULES 6: "The first number that applies is the answer." Unless the test holds, refused so.
+unfoldable pub unless : Bool → Refusal → Verdict → Verdict
+unless true f r = r
+unless false f r = refused f
+
+-- unless the test holds, refused by k
 unfoldable pub must : Bool → ℕ → Verdict → Verdict
-must true k r = r
-must false k r = refuse k
+must p k r = unless p (by k) r
+
+-- RULES 6.7: "One of the label conditions of the call does not hold." What it is told then.
+unfoldable pub whyNot : List Condition → Refusal
+whyNot conditions = by 7
+
+-- all these conditions, else 7
+unfoldable pub mustHold : List Condition → Verdict → Verdict
+mustHold conditions r = unless (allHold conditions) (whyNot conditions) r
 
 -- RULES 6.5: "A container that the call names does not exist, is an object of another kind, or may not be
 -- read by the caller; .."
@@ -394,7 +420,7 @@ orDefault q d = cond (eqb q 0) d q
 unfoldable pub make : World → Obj → ℕ → Obj → List Condition → Verdict
 make w t d x more =
     must (opens w t d) 5
-    (must (allHold (writing (t .label) ((w .obj d) .label) ++ (flow (t .label) (x .label) ∷ more))) 7
+    (mustHold (writing (t .label) ((w .obj d) .label) ++ (flow (t .label) (x .label) ∷ more))
     (must (not (forbids ((w .obj d) .mask) (x .kind))) 8
     (must (fits w d (x .quota)) 13
     (grant (w .next) [] (create d x)))))
@@ -442,7 +468,7 @@ unfoldable pub move : World → Obj → ℕ → ℕ → List Condition → Verdi
 move w t d o more rest =
     must (entry w t d o) 5
     (must (isSegment ((w .obj o) .kind) || isContainer ((w .obj o) .kind)) 6
-    (must (allHold (writing (t .label) ((w .obj d) .label) ++ (flow (t .label) ((w .obj o) .label) ∷ flow ((w .obj o) .label) (t .clearance) ∷ more))) 7
+    (mustHold (writing (t .label) ((w .obj d) .label) ++ (flow (t .label) ((w .obj o) .label) ∷ flow ((w .obj o) .label) (t .clearance) ∷ more))
     (must (not ((w .obj o) .fixed)) 9 rest)))
 
 -- RULES 8.12 to 8.14: "5 unless (D, S) is an entry. 6 unless S is a segment." Then 7, by the call's own
@@ -451,7 +477,7 @@ unfoldable pub access : World → Obj → ℕ → ℕ → List Condition → Ver
 access w t d s conditions rest =
     must (entry w t d s) 5
     (must (isSegment ((w .obj s) .kind)) 6
-    (must (allHold conditions) 7 rest))
+    (mustHold conditions rest))
 
 -- RULES 8.1 to 8.16: the tests from 5 on, and what is granted; t is the caller's object, c its id.
 unfoldable pub judge : World → Obj → ℕ → Call → Verdict
@@ -463,11 +489,11 @@ judge w t c createCategory =
     (grant (w .next) [] (alter c (relabel (withPair (w .next) star (t .label)) (clearedAt (w .next) (t .clearance)))))
 -- RULES 8.2: "7 unless T flows to L and L flows to T's clearance. T's label becomes L."
 judge w t c (setLabel l) =
-    must (allHold (flow (t .label) (labelOf l) ∷ flow (labelOf l) (t .clearance) ∷ [])) 7
+    mustHold (flow (t .label) (labelOf l) ∷ flow (labelOf l) (t .clearance) ∷ [])
     (grant 0 [] (alter c (relabel (labelOf l) (t .clearance))))
 -- RULES 8.3: "7 unless T flows to C and C flows to join(T's clearance, high(T)). T's clearance becomes C."
 judge w t c (setClearance x) =
-    must (allHold (flow (t .label) (labelOf x) ∷ flowJoinHigh (labelOf x) (t .clearance) (t .label) ∷ [])) 7
+    mustHold (flow (t .label) (labelOf x) ∷ flowJoinHigh (labelOf x) (t .clearance) (t .label) ∷ [])
     (grant 0 [] (alter c (relabel (t .label) (labelOf x))))
 -- RULES 8.4: "The new mask has the bits given and those of D's mask." The rest of 8.4 to 8.7 is `make`.
 judge w t c (createContainer d l s m q) =
@@ -480,7 +506,7 @@ judge w t c (createThread d l k s) =
 -- RULES 8.8: "5 unless (D, O) is an entry. 7 unless T may write D. The link of O in D goes, .."
 judge w t c (unreference d o) =
     must (entry w t d o) 5
-    (must (allHold (writing (t .label) ((w .obj d) .label))) 7
+    (mustHold (writing (t .label) ((w .obj d) .label))
     (grant 0 [] (cut d o)))
 -- RULES 8.9: "5 unless (D1, O) is an entry, D is a container and T may read D. 6 unless O is a segment. 7
 -- unless T may write D and O flows to T's clearance. 9 unless O's quota is fixed. 10 if O is linked in D
@@ -488,7 +514,7 @@ judge w t c (unreference d o) =
 judge w t c (linkSegment d1 o d) =
     must (entry w t d1 o && opens w t d) 5
     (must (isSegment ((w .obj o) .kind)) 6
-    (must (allHold (writing (t .label) ((w .obj d) .label) ++ (flow ((w .obj o) .label) (t .clearance) ∷ []))) 7
+    (mustHold (writing (t .label) ((w .obj d) .label) ++ (flow ((w .obj o) .label) (t .clearance) ∷ []))
     (must ((w .obj o) .fixed) 9
     (must (not (w .linked d o)) 10
     (must (fits w d ((w .obj o) .quota)) 13
@@ -498,7 +524,7 @@ judge w t c (linkSegment d1 o d) =
 judge w t c (fixQuota d o) =
     must (entry w t d o) 5
     (must (isSegment ((w .obj o) .kind)) 6
-    (must (allHold (writing (t .label) ((w .obj d) .label) ++ (flow (t .label) ((w .obj o) .label) ∷ []))) 7
+    (mustHold (writing (t .label) ((w .obj d) .label) ++ (flow (t .label) ((w .obj o) .label) ∷ []))
     (grant 0 [] (alter o fix))))
 -- RULES 8.11: "13 if n is above D's spare, or if n is below 0 and -n is above O's spare. n is added to O's
 -- quota." Test 7, 8.11: ".. for n below 0, O flows to high(T)."
@@ -534,11 +560,9 @@ judge w t c (resize d s n) =
 judge w t c (enterGate d g lr cr lv out) =
     must (entry w t d g) 5
     (must (isGate ((w .obj g) .kind)) 6
-    (must
-    (allHold
+    (mustHold
     (flow (t .label) ((w .obj g) .clearance) ∷ flow (t .label) (labelOf lv) ∷ floorFlow (t .label) ((w .obj g) .label) (labelOf lr)
-    ∷ flow (labelOf lr) (labelOf cr) ∷ flowJoin (labelOf cr) (t .clearance) ((w .obj g) .clearance) ∷ []))
-    7
+    ∷ flow (labelOf lr) (labelOf cr) ∷ flowJoin (labelOf cr) (t .clearance) ((w .obj g) .clearance) ∷ [])
     (grant ((w .obj g) .entry) ((w .obj g) .closure) (alter c (relabel (labelOf lr) (labelOf cr))))))
 -- RULES 8.16: "5 unless D is a container that T may read, and O is D itself or is linked in D; no other call
 -- takes (D, D) for an entry."
@@ -562,23 +586,23 @@ call w c x = must (leb (w .next) lastNumber) 2 (tests w c x)
 
 -- RULES 6: "If none applies the call is granted, and the answer is 0."
 unfoldable pub answerOf : Verdict → ℕ
-answerOf (refuse k) = k
+answerOf (refused r) = numberOf r
 answerOf (grant v b h) = 0
 
 -- RULES 6.14: "A refused call has value 0."
 unfoldable pub valueOf : Verdict → ℕ
-valueOf (refuse k) = 0
+valueOf (refused r) = valueWith r
 valueOf (grant v b h) = v
 
 -- RULES 6.14: "It leaves both areas and every output as they were, .."
 unfoldable pub outputOf : Verdict → List ℕ
-outputOf (refuse k) = []
+outputOf (refused r) = []
 outputOf (grant v b h) = b
 
 -- RULES 6.14: "It leaves both areas and every output as they were, unused bytes too, but for the next number
 -- (4.2)." 4.2: "Only answers 1 and 2 use up none."
 unfoldable pub leaves : Verdict → World → World
-leaves (refuse k) w = cond (leb k 2) w (apply keep w)
+leaves (refused r) w = cond (leb (numberOf r) 2) w (apply keep w)
 leaves (grant v b h) w = apply h w
 
 unfoldable pub after : World → ℕ → Call → World

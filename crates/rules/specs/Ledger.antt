@@ -8,7 +8,9 @@ use lib.Dec.{eqb, leb}
 use lib.IntN.{pos, negsuc}
 use Rattle.labels.specs.Core.{mayWrite}
 use Rattle.quotas.specs.Sum.{Σ, when}
-use Rattle.rules.specs.Kernel.{World, isThread, isContainer, Call, createCategory, setLabel, setClearance, createContainer, createSegment, createGate, createThread, unreference, linkSegment, fixQuota, moveQuota, read, write, resize, enterGate, look, orDefault, containerDefault, segmentDefault, answerOf, call, History, beginning, next, worldAfter}
+use Rattle.rules.specs.Kernel.{World, isThread, isContainer, Call, createCategory, setLabel, setClearance, createContainer, createSegment, createGate, createThread}
+use Rattle.rules.specs.Kernel.{unreference, linkSegment, fixQuota, moveQuota, read, write, resize, enterGate, look, orDefault, containerDefault, segmentDefault, answerOf}
+use Rattle.rules.specs.Kernel.{call, History, beginning, next, worldAfter}
 
 -- ---- the ledger
 

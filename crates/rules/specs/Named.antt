@@ -3,7 +3,8 @@
 use Prim.Native.Nat.{ℕ}
 use mathlib.Core.Bool.{Bool, true, _&&_}
 use mathlib.Core.List.{List, [], _∷_}
-use Rattle.rules.specs.Kernel.{Obj, World, opens, Call, createCategory, setLabel, setClearance, createContainer, createSegment, createGate, createThread, unreference, linkSegment, fixQuota, moveQuota, read, write, resize, enterGate, look}
+use Rattle.rules.specs.Kernel.{Obj, World, opens, Call, createCategory, setLabel, setClearance, createContainer, createSegment, createGate, createThread, unreference}
+use Rattle.rules.specs.Kernel.{linkSegment, fixQuota, moveQuota, read, write, resize, enterGate, look}
 
 unfoldable pub containersNamed : Call → List ℕ
 containersNamed createCategory = []

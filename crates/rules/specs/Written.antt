@@ -5,7 +5,8 @@ use Prim.Native.Nat.{ℕ, _+_, _*_, _-_}
 use mathlib.Core.Bool.{Bool, false, cond, _&&_}
 use lib.ListN.{length, getD}
 use lib.Dec.{eqb, leb, ltb}
-use Rattle.rules.specs.Kernel.{Call, createCategory, setLabel, setClearance, createContainer, createSegment, createGate, createThread, unreference, linkSegment, fixQuota, moveQuota, read, write, resize, enterGate, look, call, answerOf, isLive, History, beginning, next, worldAfter, blockSize}
+use Rattle.rules.specs.Kernel.{Call, createCategory, setLabel, setClearance, createContainer, createSegment, createGate, createThread, unreference, linkSegment, fixQuota}
+use Rattle.rules.specs.Kernel.{moveQuota, read, write, resize, enterGate, look, call, answerOf, isLive, History, beginning, next, worldAfter, blockSize}
 
 -- place i of the segment s after a granted call, where `was` stood before it
 unfoldable pub leftBy : Call → ℕ → ℕ → ℕ → ℕ

@@ -1,4 +1,4 @@
--- The book's bytes: nineteen tables of numbers, one after the other, with no byte between them (docs/BOOK.md). A number takes as
+-- The book's bytes: tables of numbers, one after the other, with no byte between them (docs/BOOK.md). A number takes as
 -- many bytes as its table is wide, the lowest first. The laws are in the modules below this one.
 use mathlib.Core.Path.{_≡_}
 use mathlib.Core.Bool.{cond}
@@ -29,38 +29,97 @@ linkCount = 255
 abbrev pub blockCount : ℕ
 blockCount = 256
 
+-- the tables in their order: the bytes of one number, and how many numbers. A table more is a line here and,
+-- below, its number, its field of View, and its place in fromTabs and in tabs; no law names all the tables.
+abbrev pub tables : List (ℕ × ℕ)
+tables =
+    (8, 1)  -- next
+    ∷ (8, 1)  -- root
+    ∷ (8, rowCount)  -- id
+    ∷ (1, rowCount)  -- kind
+    ∷ (1, rowCount)  -- mask
+    ∷ (1, rowCount)  -- fixed
+    ∷ (2, rowCount)  -- quota
+    ∷ (2, rowCount)  -- len
+    ∷ (8, rowCount)  -- entry
+    ∷ (1, rowCount)  -- labelDefault
+    ∷ (8, rowCount * wordCount)  -- labelWords
+    ∷ (1, rowCount)  -- clearDefault
+    ∷ (8, rowCount * wordCount)  -- clearWords
+    ∷ (1, rowCount * textSize)  -- description
+    ∷ (1, rowCount * textSize)  -- closure
+    ∷ (2, linkCount)  -- linkFrom
+    ∷ (2, linkCount)  -- linkTo
+    ∷ (2, blockCount)  -- owner
+    ∷ (1, blockCount)  -- index
+    ∷ []
+
 abbrev pub tableCount : ℕ
-tableCount = 19
-
--- the bytes of one number of each table, in the order of the fields of View
-abbrev pub widths : List ℕ
-widths =
-    8 ∷ 8  -- next, root
-    ∷ 8 ∷ 1 ∷ 1 ∷ 1  -- id, kind, mask, fixed
-    ∷ 2 ∷ 2 ∷ 8  -- quota, len, entry
-    ∷ 1 ∷ 8 ∷ 1 ∷ 8  -- label and clearance: default, words
-    ∷ 1 ∷ 1  -- description, closure
-    ∷ 2 ∷ 2  -- linkFrom, linkTo
-    ∷ 2 ∷ 1  -- owner, index
-    ∷ []
-
--- how many numbers each table has
-abbrev pub counts : List ℕ
-counts =
-    1 ∷ 1
-    ∷ rowCount ∷ rowCount ∷ rowCount ∷ rowCount
-    ∷ rowCount ∷ rowCount ∷ rowCount
-    ∷ rowCount ∷ rowCount * wordCount ∷ rowCount ∷ rowCount * wordCount
-    ∷ rowCount * textSize ∷ rowCount * textSize
-    ∷ linkCount ∷ linkCount
-    ∷ blockCount ∷ blockCount
-    ∷ []
+tableCount = length tables
 
 abbrev pub wOf : ℕ → ℕ
-wOf t = getD widths t 0
+wOf t = (getD tables t (0, 0)) .0
 
 abbrev pub nOf : ℕ → ℕ
-nOf t = getD counts t 0
+nOf t = (getD tables t (0, 0)) .1
+
+-- the tables by their numbers
+abbrev pub nextT : ℕ
+nextT = 0
+
+abbrev pub rootT : ℕ
+rootT = 1
+
+abbrev pub idT : ℕ
+idT = 2
+
+abbrev pub kindT : ℕ
+kindT = 3
+
+abbrev pub maskT : ℕ
+maskT = 4
+
+abbrev pub fixedT : ℕ
+fixedT = 5
+
+abbrev pub quotaT : ℕ
+quotaT = 6
+
+abbrev pub lenT : ℕ
+lenT = 7
+
+abbrev pub entryT : ℕ
+entryT = 8
+
+abbrev pub labelDefaultT : ℕ
+labelDefaultT = 9
+
+abbrev pub labelWordsT : ℕ
+labelWordsT = 10
+
+abbrev pub clearDefaultT : ℕ
+clearDefaultT = 11
+
+abbrev pub clearWordsT : ℕ
+clearWordsT = 12
+
+abbrev pub descriptionT : ℕ
+descriptionT = 13
+
+abbrev pub closureT : ℕ
+closureT = 14
+
+abbrev pub linkFromT : ℕ
+linkFromT = 15
+
+abbrev pub linkToT : ℕ
+linkToT = 16
+
+abbrev pub ownerT : ℕ
+ownerT = 17
+
+abbrev pub indexT : ℕ
+indexT = 18
 
 -- where a table starts: past the tables before it
 abbrev pub base : ℕ → ℕ
@@ -108,37 +167,54 @@ pub record View : Type 0 where
 abbrev pub fromTabs : (ℕ → List ℕ) → View
 fromTabs f =
     record {
-      next = f 0;
-      root = f 1;
-      id = f 2;
-      kind = f 3;
-      mask = f 4;
-      fixed = f 5;
-      quota = f 6;
-      len = f 7;
-      entry = f 8;
-      labelDefault = f 9;
-      labelWords = f 10;
-      clearDefault = f 11;
-      clearWords = f 12;
-      description = f 13;
-      closure = f 14;
-      linkFrom = f 15;
-      linkTo = f 16;
-      owner = f 17;
-      index = f 18;
+      next = f nextT;
+      root = f rootT;
+      id = f idT;
+      kind = f kindT;
+      mask = f maskT;
+      fixed = f fixedT;
+      quota = f quotaT;
+      len = f lenT;
+      entry = f entryT;
+      labelDefault = f labelDefaultT;
+      labelWords = f labelWordsT;
+      clearDefault = f clearDefaultT;
+      clearWords = f clearWordsT;
+      description = f descriptionT;
+      closure = f closureT;
+      linkFrom = f linkFromT;
+      linkTo = f linkToT;
+      owner = f ownerT;
+      index = f indexT;
     }
+
+-- the tables of a book, in their order
+abbrev pub tabs : View → List (List ℕ)
+tabs k =
+    k .next
+    ∷ k .root
+    ∷ k .id
+    ∷ k .kind
+    ∷ k .mask
+    ∷ k .fixed
+    ∷ k .quota
+    ∷ k .len
+    ∷ k .entry
+    ∷ k .labelDefault
+    ∷ k .labelWords
+    ∷ k .clearDefault
+    ∷ k .clearWords
+    ∷ k .description
+    ∷ k .closure
+    ∷ k .linkFrom
+    ∷ k .linkTo
+    ∷ k .owner
+    ∷ k .index
+    ∷ []
 
 -- the table t of a book
 abbrev pub tabOf : View → ℕ → List ℕ
-tabOf k t =
-    getD
-    (k .next ∷ k .root
-    ∷ k .id ∷ k .kind ∷ k .mask ∷ k .fixed
-    ∷ k .quota ∷ k .len ∷ k .entry
-    ∷ k .labelDefault ∷ k .labelWords ∷ k .clearDefault ∷ k .clearWords
-    ∷ k .description ∷ k .closure
-    ∷ k .linkFrom ∷ k .linkTo ∷ k .owner ∷ k .index ∷ []) t []
+tabOf k t = getD (tabs k) t []
 
 -- what a book's bytes say
 unfoldable pub view : List ℕ → View
@@ -152,7 +228,7 @@ zeros n = replicate n 0
 unfoldable pub empty : View
 empty = fromTabs (λ t. zeros (nOf t))
 
--- ---- changes. Each field of a changed book names that field alone: with t a numeral, what a change leaves of another table computes.
+-- ---- changes. With t a numeral, what a change leaves of another table computes.
 
 -- what a change f of table t makes of table s
 abbrev pub ifTab : ℕ → (List ℕ → List ℕ) → ℕ → List ℕ → List ℕ
@@ -160,28 +236,7 @@ ifTab t f s l = cond (eqb s t) (f l) l
 
 -- the book with f applied to table t
 abbrev pub onTab : ℕ → (List ℕ → List ℕ) → View → View
-onTab t f k =
-    record {
-      next = ifTab t f 0 (k .next);
-      root = ifTab t f 1 (k .root);
-      id = ifTab t f 2 (k .id);
-      kind = ifTab t f 3 (k .kind);
-      mask = ifTab t f 4 (k .mask);
-      fixed = ifTab t f 5 (k .fixed);
-      quota = ifTab t f 6 (k .quota);
-      len = ifTab t f 7 (k .len);
-      entry = ifTab t f 8 (k .entry);
-      labelDefault = ifTab t f 9 (k .labelDefault);
-      labelWords = ifTab t f 10 (k .labelWords);
-      clearDefault = ifTab t f 11 (k .clearDefault);
-      clearWords = ifTab t f 12 (k .clearWords);
-      description = ifTab t f 13 (k .description);
-      closure = ifTab t f 14 (k .closure);
-      linkFrom = ifTab t f 15 (k .linkFrom);
-      linkTo = ifTab t f 16 (k .linkTo);
-      owner = ifTab t f 17 (k .owner);
-      index = ifTab t f 18 (k .index);
-    }
+onTab t f k = fromTabs (λ s. ifTab t f s (tabOf k s))
 
 -- the book with v as number i of table t
 abbrev pub putT : ℕ → ℕ → ℕ → View → View

@@ -27,97 +27,95 @@ pub const BLOCKS: usize = 256;
 // The bytes of a description, and of a gate's closure.
 pub const TEXT_SIZE: usize = 32;
 
-// ---- the tables' numbers
+// ---- the tables: the number of each, and where it starts, past the one before it
 
 // The next number to be issued, and the root's id.
 pub const NEXT: usize = 0;
 
+const NEXT_BASE: usize = 0;
+
 pub const ROOT: usize = 1;
+
+const ROOT_BASE: usize = NEXT_BASE + 8;
 
 // One number for each row.
 pub const ID: usize = 2;
 
+const ID_BASE: usize = ROOT_BASE + 8;
+
 pub const KIND: usize = 3;
+
+const KIND_BASE: usize = ID_BASE + 8 * ROWS;
 
 pub const MASK: usize = 4;
 
+const MASK_BASE: usize = KIND_BASE + ROWS;
+
 pub const FIXED: usize = 5;
+
+const FIXED_BASE: usize = MASK_BASE + ROWS;
 
 pub const QUOTA: usize = 6;
 
+const QUOTA_BASE: usize = FIXED_BASE + ROWS;
+
 pub const LEN: usize = 7;
 
+const LEN_BASE: usize = QUOTA_BASE + 2 * ROWS;
+
 pub const ENTRY: usize = 8;
+
+const ENTRY_BASE: usize = LEN_BASE + 2 * ROWS;
 
 // A row's label and clearance: one default, and WORDS words.
 pub const LABEL_DEFAULT: usize = 9;
 
+const LABEL_DEFAULT_BASE: usize = ENTRY_BASE + 8 * ROWS;
+
 pub const LABEL_WORDS: usize = 10;
+
+const LABEL_WORDS_BASE: usize = LABEL_DEFAULT_BASE + ROWS;
 
 pub const CLEAR_DEFAULT: usize = 11;
 
+const CLEAR_DEFAULT_BASE: usize = LABEL_WORDS_BASE + 8 * ROWS * WORDS;
+
 pub const CLEAR_WORDS: usize = 12;
+
+const CLEAR_WORDS_BASE: usize = CLEAR_DEFAULT_BASE + ROWS;
 
 // A row's texts: TEXT_SIZE bytes each.
 pub const DESCRIPTION: usize = 13;
 
+const DESCRIPTION_BASE: usize = CLEAR_WORDS_BASE + 8 * ROWS * WORDS;
+
 pub const CLOSURE: usize = 14;
+
+const CLOSURE_BASE: usize = DESCRIPTION_BASE + ROWS * TEXT_SIZE;
 
 // Of a link: the container's row plus 1, or 0 where the link is free; the object's row.
 pub const LINK_FROM: usize = 15;
 
+const LINK_FROM_BASE: usize = CLOSURE_BASE + ROWS * TEXT_SIZE;
+
 pub const LINK_TO: usize = 16;
+
+const LINK_TO_BASE: usize = LINK_FROM_BASE + 2 * LINKS;
 
 // Of a block: the segment's row plus 1, or 0 where the block is free; which of the segment's blocks it is.
 pub const OWNER: usize = 17;
 
-pub const INDEX: usize = 18;
-
-const TABLES: usize = 19;
-
-// ---- where the tables start: each past the one before it
-
-const ROOT_BASE: usize = 8;
-
-const ID_BASE: usize = ROOT_BASE + 8;
-
-const KIND_BASE: usize = ID_BASE + 8 * ROWS;
-
-const MASK_BASE: usize = KIND_BASE + ROWS;
-
-const FIXED_BASE: usize = MASK_BASE + ROWS;
-
-const QUOTA_BASE: usize = FIXED_BASE + ROWS;
-
-const LEN_BASE: usize = QUOTA_BASE + 2 * ROWS;
-
-const ENTRY_BASE: usize = LEN_BASE + 2 * ROWS;
-
-const LABEL_DEFAULT_BASE: usize = ENTRY_BASE + 8 * ROWS;
-
-const LABEL_WORDS_BASE: usize = LABEL_DEFAULT_BASE + ROWS;
-
-const CLEAR_DEFAULT_BASE: usize = LABEL_WORDS_BASE + 8 * ROWS * WORDS;
-
-const CLEAR_WORDS_BASE: usize = CLEAR_DEFAULT_BASE + ROWS;
-
-const DESCRIPTION_BASE: usize = CLEAR_WORDS_BASE + 8 * ROWS * WORDS;
-
-const CLOSURE_BASE: usize = DESCRIPTION_BASE + ROWS * TEXT_SIZE;
-
-const LINK_FROM_BASE: usize = CLOSURE_BASE + ROWS * TEXT_SIZE;
-
-const LINK_TO_BASE: usize = LINK_FROM_BASE + 2 * LINKS;
-
 const OWNER_BASE: usize = LINK_TO_BASE + 2 * LINKS;
+
+pub const INDEX: usize = 18;
 
 const INDEX_BASE: usize = OWNER_BASE + 2 * BLOCKS;
 
 // The length of a book.
 pub const BOOK_LEN: usize = INDEX_BASE + BLOCKS;
 
-const BASES: [usize; TABLES] = [
-    0,
+const BASES: [usize; INDEX + 1] = [
+    NEXT_BASE,
     ROOT_BASE,
     ID_BASE,
     KIND_BASE,

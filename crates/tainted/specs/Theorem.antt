@@ -8,7 +8,7 @@ use mathlib.Core.List.{List}
 use lib.Dec.{leb}
 use borrow.Author.Tests.{leb-false, leb-true}
 use Rattle.labels.specs.Core.{at, level1}
-use Rattle.rules.specs.Kernel.{isThread, Obj, World, Change, keep, apply, Call, Verdict, refuse, grant, goodArguments, judge, tests, call, leaves}
+use Rattle.rules.specs.Kernel.{isThread, Obj, World, Change, keep, apply, Call, Verdict, refused, numberOf, grant, goodArguments, judge, tests, call, leaves}
 use Rattle.rules.specs.Kernel.{after, answerOf, valueOf, outputOf, lastNumber}
 use Rattle.rules.specs.Sound.{Sound}
 use Rattle.rules.specs.Laws.Bools.{and-l, and-r, same-by, bool-cases}
@@ -118,7 +118,7 @@ module _ (v : ℕ) where
         kept false = keep-both v a b (k .alike)
 
         go : (r : Verdict) → call a c x ≡ r → Alike v (leaves r a) (leaves r b)
-        go (refuse n) e = kept (leb n 2)
+        go (refused f) e = kept (leb (numberOf f) 2)
         go (grant n l y) e =
             let (t, f) = granted-respects a (k .sound-a) (k .terms-a) c x n l y e in
             both v a b (k .alike) (k .sound-a) (k .sound-b) (k .terms-a) (k .terms-b) c t (is-untainted (a .obj c) h) (same-caller h) y f

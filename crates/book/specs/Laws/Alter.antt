@@ -18,15 +18,16 @@ use Rattle.quotas.specs.Sum.{Σ, when}
 use Rattle.rules.specs.Kernel.{gateCode, segmentCode, maxCode, blank, Edit, relabel, fix, requota, edit, keep, alter, apply, hasClearance, isSegment, Obj, altered}
 use Rattle.rules.specs.Laws.Bools.{bool-cases}
 use Rattle.rules.specs.Laws.Put.{put-same, put-other}
+use Rattle.tables.specs.Layout.{View, rowCount, linkCount, blockCount, nextT, fixedT, quotaT, labelDefaultT, labelWordsT, clearDefaultT, clearWordsT, putT, runT}
 use Rattle.rules.specs.Laws.Worlds.{world-ext}
-use Rattle.tables.specs.Layout.{View, rowCount, linkCount, blockCount, putT, runT}
 use Rattle.tables.specs.Layout.Laws.{within}
 use Rattle.tables.specs.Layout.Runs.{sets-read, sets-before, sets-behind}
-use Rattle.book.specs.Book.{nextOf, rootOf, idOf, codeOf, fixedOf, quotaOf, lenOf, labelOf, clearanceOf, fromOf, toOf, ownerOf, indexOf, blocksOf, first, blockAt, placeOf, bytesOf, kindFrom, objectAt, rowOf, worldOf, ThreadOrGate}
+use Rattle.book.specs.Book.{nextOf, rootOf, idOf, codeOf, fixedOf, quotaOf, lenOf, labelOf, clearanceOf, fromOf, toOf, ownerOf, indexOf, blocksOf, first, blockAt, placeOf}
+use Rattle.book.specs.Book.{bytesOf, kindFrom, objectAt, rowOf, worldOf, ThreadOrGate}
 use Rattle.book.specs.Sound.{Live, On, Used, Owned, timesHeld}
 use Rattle.book.specs.Placed.{Placed}
 use Rattle.book.specs.Shape.{Shape}
-use Rattle.book.specs.Enact.{nextT, labelDefaultT, labelWordsT, clearDefaultT, clearWordsT, fixedT, quotaT, movedOn, relabelled, fixedAt, requotaed}
+use Rattle.book.specs.Enact.{movedOn, relabelled, fixedAt, requotaed}
 use Rattle.book.specs.Laws.Codes.{segment-from, cleared-from}
 use Rattle.book.specs.Laws.First.{found-cases}
 use Rattle.book.specs.Laws.Tie.{row-found, row-is, obj-found, obj-missing, obj-at}
@@ -109,7 +110,7 @@ module _ (v : View) where
   pub keep-world : (area : List ℕ) → Shape v → worldOf (movedOn v) area ≡ apply keep (worldOf v area)
   unfolding worldOf apply
   keep-world area z =
-      world-ext (worldOf (movedOn v) area) (apply keep (worldOf v area)) (moved-next (z .next-long)) moved-root
+      world-ext (worldOf (movedOn v) area) (apply keep (worldOf v area)) (moved-next (z .long nextT)) moved-root
       (λ o. found-cases (rowOf v o)
       (λ r e. obj-found (movedOn v) area o r (moved-row o ∙ e) ∙ moved-object area r ∙ sym (obj-found v area o r e))
       (λ e. obj-missing (movedOn v) area o (moved-row o ∙ e) ∙ sym (obj-missing v area o e)))
@@ -143,7 +144,7 @@ module _ (v u : View) (x y : List ℕ) (r : ℕ) (e : Edit) (p : Placed v) (a : 
   unfolding worldOf apply
   altered-world z =
       world-ext (worldOf (movedOn u) y) (apply (alter (idOf v r) e) (worldOf v x))
-      (moved-next u (ap (λ (l : List ℕ). length l) (h .next-same) ∙ z .next-long) ∙ ap (λ (l : List ℕ). suc (getD l 0 0)) (h .next-same))
+      (moved-next u (ap (λ (l : List ℕ). length l) (h .next-same) ∙ z .long nextT) ∙ ap (λ (l : List ℕ). suc (getD l 0 0)) (h .next-same))
       (moved-root u ∙ ap (λ (l : List ℕ). getD l 0 0) (h .alike .root-same))
       (λ j. elim (ℕ-discrete j (idOf v r)) [
         | yes q ↦ altered-here j q ∙ sym (put-same (idOf v r) (edit e ((worldOf v x) .obj (idOf v r))) ((worldOf v x) .obj) j q)
@@ -159,15 +160,15 @@ module _ (v : View) (z : Shape v) (r : ℕ) (l c : Label) where
   unfolding relabelled
   label-here h k =
       label-ext (labelOf (relabelled r l c v) r) l
-      (getD-set-same (v .labelDefault) r (l .default) 0 (omega (arith, z .labelDefault-long)))
-      (run-here (v .labelWords) rowCount wordCount r (l .words) (z .labelWords-long) h k)
+      (getD-set-same (v .labelDefault) r (l .default) 0 (omega (arith, z .long labelDefaultT)))
+      (run-here (v .labelWords) rowCount wordCount r (l .words) (z .long labelWordsT) h k)
 
   pub clearance-here : r < rowCount → length (c .words) ≡ wordCount → clearanceOf (relabelled r l c v) r ≡ c
   unfolding relabelled
   clearance-here h k =
       label-ext (clearanceOf (relabelled r l c v) r) c
-      (getD-set-same (v .clearDefault) r (c .default) 0 (omega (arith, z .clearDefault-long)))
-      (run-here (v .clearWords) rowCount wordCount r (c .words) (z .clearWords-long) h k)
+      (getD-set-same (v .clearDefault) r (c .default) 0 (omega (arith, z .long clearDefaultT)))
+      (run-here (v .clearWords) rowCount wordCount r (c .words) (z .long clearWordsT) h k)
 
   -- another's stays.
   pub label-elsewhere : (s : ℕ) → (s ≡ r → ⊥) → length (l .words) ≡ wordCount → labelOf (relabelled r l c v) s ≡ labelOf v s
@@ -226,7 +227,7 @@ module _ (v : View) (z : Shape v) (r : ℕ) where
   -- A row's mark is set, another's stays, and the tables keep their lengths.
   pub fixed-here : r < rowCount → fixedOf (fixedAt r v) r ≡ 1
   unfolding fixedAt
-  fixed-here h = getD-set-same (v .fixed) r 1 0 (omega (arith, z .fixed-long))
+  fixed-here h = getD-set-same (v .fixed) r 1 0 (omega (arith, z .long fixedT))
 
   pub fixed-elsewhere : (s : ℕ) → (s ≡ r → ⊥) → fixedOf (fixedAt r v) s ≡ fixedOf v s
   unfolding fixedAt
@@ -264,7 +265,7 @@ module _ (v : View) (z : Shape v) (r q : ℕ) where
   -- A row's quota is the new one, another's stays, and the tables keep their lengths.
   pub quota-here : r < rowCount → quotaOf (requotaed r q v) r ≡ q
   unfolding requotaed
-  quota-here h = getD-set-same (v .quota) r q 0 (omega (arith, z .quota-long))
+  quota-here h = getD-set-same (v .quota) r q 0 (omega (arith, z .long quotaT))
 
   pub quota-elsewhere : (s : ℕ) → (s ≡ r → ⊥) → quotaOf (requotaed r q v) s ≡ quotaOf v s
   unfolding requotaed

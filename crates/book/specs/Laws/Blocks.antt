@@ -11,13 +11,12 @@ use Rattle.quotas.specs.Sum.{Σ, when, put, put-here, put-else, sum-change, sum
 use Rattle.rules.specs.Kernel.{segmentCode, blockSize}
 use Rattle.rules.specs.Laws.Bools.{not-i}
 use Rattle.tables.specs.Layout.{View, blockCount}
-use Rattle.book.specs.declared.Found.the-variants.{At, Nothing}
+use Rattle.book.specs.declared.Found.the-variants.{At}
 use Rattle.book.specs.Book.{codeOf, lenOf, ownerOf, indexOf, blocksOf, isBlock, first, blockAt, placeOf}
 use Rattle.book.specs.Sound.{Live, Used, timesHeld}
 use Rattle.book.specs.Placed.{Placed}
 use Rattle.book.specs.Enact.{areaSize}
-use Rattle.book.specs.Laws.First.{first-only, first-nothing, on-at}
-use Rattle.book.specs.Laws.Tie.{code-live}
+use Rattle.book.specs.Laws.First.{first-only, on-at}
 
 -- row r has m blocks: blocks 0 up to m - 1, each once, and no other
 pub record Held (v : View) (r m : ℕ) : Type 0 where
@@ -91,29 +90,20 @@ module _ (v : View) (r : ℕ) where
     unfolding blockAt
     held-at x g o = on-at (first blockCount (isBlock v r (indexOf v x))) x (λ b. b) 0 (held-found x g o)
 
-    -- there is none beyond the last,
-    pub held-none : (k : ℕ) → m ≤ k → first blockCount (isBlock v r k) ≡ Nothing
-    held-none k l =
-        first-nothing blockCount (isBlock v r k)
-        (λ x g. not-i (isBlock v r k x) (λ t. let (o, i) = test-block k x t in let w = h .within x g o in omega arith))
-
     -- and each block at an index is one of the data area's, is row r's, and has that index.
-    at-found : (k : ℕ) → k < m → (x : ℕ) × (x < blockCount) × (ownerOf v x ≡ r + 1) × (indexOf v x ≡ k) × (first blockCount (isBlock v r k) ≡ At x) × (blockAt v r k ≡ x)
+    at-found : (k : ℕ) → k < m → (x : ℕ) × (x < blockCount) × (ownerOf v x ≡ r + 1) × (indexOf v x ≡ k) × (blockAt v r k ≡ x)
     at-found k l =
         let (x, g, o, i) = h .has k l in
-        (x, g, o, i, subst (λ (n : ℕ). first blockCount (isBlock v r n) ≡ At x) i (held-found x g o), subst (λ (n : ℕ). blockAt v r n ≡ x) i (held-at x g o))
-
-    pub at-first : (k : ℕ) → k < m → first blockCount (isBlock v r k) ≡ At (blockAt v r k)
-    at-first k l = let (x, g, o, i, f, e) = at-found k l in f ∙ ap At (sym e)
+        (x, g, o, i, subst (λ (n : ℕ). blockAt v r n ≡ x) i (held-at x g o))
 
     pub at-low : (k : ℕ) → k < m → blockAt v r k < blockCount
-    at-low k l = let (x, g, o, i, f, e) = at-found k l in subst (λ (y : ℕ). y < blockCount) (sym e) g
+    at-low k l = let (x, g, o, i, e) = at-found k l in subst (λ (y : ℕ). y < blockCount) (sym e) g
 
     pub at-owner : (k : ℕ) → k < m → ownerOf v (blockAt v r k) ≡ r + 1
-    at-owner k l = let (x, g, o, i, f, e) = at-found k l in ap (ownerOf v) e ∙ o
+    at-owner k l = let (x, g, o, i, e) = at-found k l in ap (ownerOf v) e ∙ o
 
     pub at-index : (k : ℕ) → k < m → indexOf v (blockAt v r k) ≡ k
-    at-index k l = let (x, g, o, i, f, e) = at-found k l in ap (indexOf v) e ∙ i
+    at-index k l = let (x, g, o, i, e) = at-found k l in ap (indexOf v) e ∙ i
 
     -- ---- places
 
@@ -142,30 +132,3 @@ module _ (v : View) (r : ℕ) where
 pub positive : (m : ℕ) → (m ≡ 0 → ⊥) → m ≡ m - 1 + 1
 positive zero ne = absurd (ne refl)
 positive (suc m) ne = omega arith
-
--- Each used block is the block at its owner and index.
-pub used-at : (v : View) → Placed v → (x : ℕ) → Used v x → blockAt v (ownerOf v x - 1) (indexOf v x) ≡ x
-used-at v p x u =
-    let o = p .owned x u in
-    let r = ownerOf v x - 1 in
-    let a = code-live v r segmentCode (o .owner-low) (o .owner-segment) (omega arith) in
-    held-at v r (blocksOf (lenOf v r)) (held v r p a (o .owner-segment)) x (u .low) (positive (ownerOf v x) (u .used))
-
--- Blocks at different rows or indices are different blocks,
-pub at-apart : (v : View) (r s m n : ℕ) → Held v r m → Held v s n → (k l : ℕ) → k < m → l < n → blockAt v r k ≡ blockAt v s l → (r ≡ s) × (k ≡ l)
-at-apart v r s m n h g k l a b e =
-    let o = ap (ownerOf v) e in
-    let i = ap (indexOf v) e in
-    let o₁ = at-owner v r m h k a in
-    let o₂ = at-owner v s n g l b in
-    let i₁ = at-index v r m h k a in
-    let i₂ = at-index v s n g l b in
-    (omega arith, omega arith)
-
--- and bytes at different rows or indices lie at different places.
-pub place-apart : (v : View) (r s m n : ℕ) → Held v r m → Held v s n → (i j : ℕ) → i / blockSize < m → j / blockSize < n → placeOf v r i ≡ placeOf v s j → (r ≡ s) × (i ≡ j)
-place-apart v r s m n h g i j a b e =
-    let x = ap (λ (p : ℕ). p / blockSize) e in
-    let y = ap (λ (p : ℕ). p % blockSize) e in
-    let (z, w) = at-apart v r s m n h g (i / blockSize) (j / blockSize) a b (sym (place-block v r m h i) ∙ x ∙ place-block v s n g j) in
-    (z, omega (arith, place-rest v r m h i, place-rest v s n g j))

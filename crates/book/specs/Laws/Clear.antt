@@ -9,24 +9,26 @@ use lib.ListN.{length, getD, getD-replicate}
 use lib.Dec.{eqb, ltb}
 use borrow.Author.Tests.{eqb-true, eqb-false, ne-eqb, ltb-true, ltb-false}
 use Rattle.labels.specs.declared.Label.{Label}
-use Rattle.rules.specs.Kernel.{segmentCode, isSegment, Obj, Edit, relabel, fix, requota, rewrite, Change, keep, alter, create, cut, link, kept, blockSize}
+use Rattle.rules.specs.Kernel.{segmentCode, Obj, Edit, relabel, fix, requota, rewrite, Change, keep, alter, create, cut, link, kept, blockSize}
 use Rattle.rules.specs.Fair.{Fair}
 use Rattle.rules.specs.Laws.Bools.{bool-cases}
-use Rattle.tables.specs.Layout.{View, rowCount, blockCount}
+use Rattle.tables.specs.Layout.{View, rowCount, blockCount, indexT}
 use Rattle.book.specs.Book.{nextOf, idOf, codeOf, lenOf, quotaOf, ownerOf, indexOf, blocksOf, rowOf, worldOf}
 use Rattle.book.specs.Sound.{Live, Sound}
 use Rattle.book.specs.Placed.{Placed}
 use Rattle.book.specs.Shape.{Shape}
 use Rattle.book.specs.Clear.{Clear}
-use Rattle.book.specs.Enact.{areaSize, movedOn, relabelled, fixedAt, requotaed, freeRow, freeLink, rowFilled, linkFilled, cutView, cutArea, lengthened, areaAfter, alteredView, alteredArea, enactView, enactArea, startArea}
+use Rattle.book.specs.Enact.{areaSize, movedOn, relabelled, fixedAt, requotaed, freeRow, freeLink, rowFilled, linkFilled, cutView, cutArea, lengthened, areaAfter}
+use Rattle.book.specs.Enact.{alteredView, alteredArea, enactView, enactArea, startArea}
 use Rattle.book.specs.declared.Found.the-variants.{At}
 use Rattle.book.specs.Laws.First.{found-cases, first-hit}
-use Rattle.book.specs.Laws.Tie.{row-is, segment-at, quota-at, code-live}
+use Rattle.book.specs.Laws.Tie.{row-is, quota-at, code-live}
 use Rattle.book.specs.Laws.WorldSound.{placed}
 use Rattle.book.specs.Laws.Room.{freeBlocks, block-room}
 use Rattle.book.specs.Laws.Cleared.{if-true, if-false}
 use Rattle.book.specs.Laws.Blocks.{held, place-back, positive}
 use Rattle.book.specs.Laws.Filled.{filled-len-other}
+use Rattle.book.specs.Laws.Enacted.{segment-code}
 use Rattle.book.specs.Laws.CutWorld.{cut-left, cut-left-bytes, left-true, left-some}
 use Rattle.book.specs.Laws.Lengthened.{lengthened-mine}
 use Rattle.book.specs.Laws.Rewrite.{spot, Rewritten, lengthened-rewritten, byte-stays, byte-freed, byte-new, byte-gone, byte-else, after-at}
@@ -147,7 +149,7 @@ module _ (v : View) (area : List ℕ) (p : Placed v) (z : Shape v) (r : ℕ) (a 
   unfolding u
   past-own j l o h = after-at v u r b area j l ∙ elim (ℕ-discrete (ownerOf v (j / blockSize)) (r + 1)) [
     | yes q ↦
-        let e = lengthened-mine r (length b) v (z .index-long) (held v r p a c) (j / blockSize) (omega arith) q o in
+        let e = lengthened-mine r (length b) v (z .long indexT) (held v r p a c) (j / blockSize) (omega arith) q o in
         bool-cases (ltb (spot u j) (lenOf v r))
         (λ t. byte-freed v u r b area j o h q (ltb-true (spot u j) (lenOf v r) t))
         (λ t. byte-stays v u r b area j o h q (ltb-false (spot u j) (lenOf v r) t)
@@ -188,21 +190,21 @@ module _ (v : View) (area : List ℕ) (p : Placed v) (z : Shape v) (r : ℕ) (a 
 
 module _ (v : View) (area : List ℕ) (s : Sound v) (z : Shape v) (w : Wiped v area) where
   -- an object is altered at its row; where it has none nothing but the number changes
-  at-row : (o : ℕ) (e : Edit) → ((r : ℕ) → rowOf v o ≡ At r → Wiped (movedOn (alteredView e r v)) (alteredArea e r v area))
+  altered-wiped : (o : ℕ) (e : Edit) → ((r : ℕ) → rowOf v o ≡ At r → Wiped (movedOn (alteredView e r v)) (alteredArea e r v area))
       → Wiped (enactView (alter o e) v area) (enactArea (alter o e) v area)
   unfolding enactView enactArea
-  at-row o e f = found-cases (rowOf v o) (λ r h. rw h (f r h)) (λ h. rw h (moved-wiped v area w))
+  altered-wiped o e f = found-cases (rowOf v o) (λ r h. rw h (f r h)) (λ h. rw h (moved-wiped v area w))
 
   -- Whatever fair change is made on a sound book, what no live segment holds stays zero.
   pub every-wiped : (h : Change) → Fair (worldOf v area) h → Wiped (enactView h v area) (enactArea h v area)
   unfolding enactView enactArea alteredView alteredArea
   every-wiped keep f = moved-wiped v area w
-  every-wiped (alter o (relabel l c)) f = at-row o (relabel l c) (λ r h. relabelled-wiped v area r l c w)
-  every-wiped (alter o fix) f = at-row o fix (λ r h. fixed-wiped v area r w)
-  every-wiped (alter o (requota q)) f = at-row o (requota q) (λ r h. requotaed-wiped v area r q w)
-  every-wiped (alter o (rewrite b)) f = at-row o (rewrite b) (λ r h.
+  every-wiped (alter o (relabel l c)) f = altered-wiped o (relabel l c) (λ r h. relabelled-wiped v area r l c w)
+  every-wiped (alter o fix) f = altered-wiped o fix (λ r h. fixed-wiped v area r w)
+  every-wiped (alter o (requota q)) f = altered-wiped o (requota q) (λ r h. requotaed-wiped v area r q w)
+  every-wiped (alter o (rewrite b)) f = altered-wiped o (rewrite b) (λ r h.
       let (a, i) = row-is v o r h in
-      let code = eqb-true (codeOf v r) segmentCode (sym (segment-at v area (placed v s) r a) ∙ ap (λ (n : ℕ). isSegment (((worldOf v area) .obj n) .kind)) i ∙ f .is-segment) in
+      let code = segment-code v area s o r a i (f .is-segment) in
       let q : (((worldOf v area) .obj o) .quota) ≡ quotaOf v r = ap (λ (n : ℕ). ((worldOf v area) .obj n) .quota) (sym i) ∙ quota-at v area (placed v s) r a in
       rewritten-wiped v area (placed v s) z r a code b (block-room v s r (length b) (a .low) code (omega (arith, f .within, q))) w)
   every-wiped (create d x) f =

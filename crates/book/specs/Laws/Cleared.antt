@@ -13,10 +13,10 @@ use borrow.Author.Tests.{le-leb, lt-ltb, le-ltb, ltb-true, ltb-false, leb-true, 
 use Rattle.quotas.specs.Any.{no-both, both, both-of, both-parts}
 use Rattle.rules.specs.Kernel.{blockSize}
 use Rattle.rules.specs.Laws.Bools.{bool-cases, not-i, same-by}
-use Rattle.tables.specs.Layout.{View, blockCount, onTab, putT}
+use Rattle.tables.specs.Layout.{View, blockCount, lenT, ownerT, indexT, onTab, putT}
 use Rattle.book.specs.declared.Found.the-variants.{At, Nothing}
 use Rattle.book.specs.Book.{lenOf, ownerOf, indexOf, blocksOf, isBlock, first, collect}
-use Rattle.book.specs.Enact.{areaSize, lenT, ownerT, indexT, freeBlock, blockAdded, blocksAdded, blocksDropped, lengthened}
+use Rattle.book.specs.Enact.{areaSize, freeBlock, blockAdded, blocksAdded, blocksDropped, lengthened}
 use Rattle.book.specs.Resize.{cleared, blockCleared, isPast, blockDropped, blockWiped, droppedTo, wipedTo, freeCleared, freesCleared, edgeEnd, edgeCleared, betweenCleared, resizedArea}
 use Rattle.book.specs.Laws.First.{first-low, on-at, on-nothing, collect-length, collect-at, collect-is, collect-cong}
 

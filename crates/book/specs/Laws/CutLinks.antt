@@ -13,16 +13,16 @@ use Rattle.quotas.specs.Any.{any-of, any-found, both, either, both-of, both-par
 use Rattle.rules.specs.Kernel.{segmentCode, under, below, stays, kept, rootQuota, blockSize}
 use Rattle.rules.specs.Laws.Bools.{bool-cases, not-i, not-both, same-by}
 use Rattle.rules.specs.Laws.Below.{under-step, below-self, below-down, stays-linked, stays-not-below, stays-not-cut, stays-i, stays-kept, root-kept, kept-cases}
-use Rattle.tables.specs.Layout.{View, view, rowCount, linkCount, blockCount, onTab}
+use Rattle.tables.specs.Layout.{View, view, rowCount, linkCount, blockCount, kindT, linkFromT, ownerT, onTab}
 use Rattle.book.specs.Book.{nextOf, rootOf, idOf, codeOf, markOf, fromOf, toOf, ownerOf, liveLink, collect, worldOf}
 use Rattle.book.specs.Sound.{Live, On, Used, Sound}
 use Rattle.book.specs.Shape.{Shape}
-use Rattle.book.specs.Enact.{kindT, linkFromT, ownerT, areaSize, movedOn, cutView, cutArea, enactView, enactArea}
+use Rattle.book.specs.Enact.{areaSize, movedOn, cutView, cutArea, enactView, enactArea}
 use Rattle.book.specs.Cut.{cutAt, Entry, LinkCut, Goes, this, inside, Linked, Ended, Unlinked, Blocked, heldRow, rowsSwept, orphan, blocksSwept, areaSwept}
 use Rattle.book.specs.Laws.First.{collect-at, collect-is, collect-cong}
 use Rattle.book.specs.Laws.Tie.{test-on, on-test, same-row, same-link, linked-at, linked-is, world-root}
 use Rattle.book.specs.Laws.WorldSound.{placed, world-sound}
-use Rattle.tables.specs.Layout.Laws.{linkFrom-long}
+use Rattle.tables.specs.Layout.Laws.{tabOf-long}
 use Rattle.book.specs.Laws.Shapes.{view-shape}
 use Rattle.book.specs.Laws.CutWorld.{left-true, left-some}
 
@@ -319,7 +319,7 @@ module _ (e area : List ℕ) (l : ℕ) (ok : Entry e area l) where
       pub whole-cut : (g : View) → g ≡ blocksSwept (view c) → (left : List ℕ) → left ≡ areaSwept (view c) area → LinkCut (view e) l area g left
       whole-cut g r left w =
           record {
-            book = r ∙ ap blocksSwept q ∙ parts-view (view e) area (view-shape e) (ok .sound) l (ok .on) (view b) f (linkFrom-long b);
+            book = r ∙ ap blocksSwept q ∙ parts-view (view e) area (view-shape e) (ok .sound) l (ok .on) (view b) f (tabOf-long b linkFromT);
             bytes = w ∙ ap (λ (x : View). areaSwept x area) q ∙ parts-area (view e) area (view-shape e) (ok .sound) l (ok .on) (view b) f;
           }
 

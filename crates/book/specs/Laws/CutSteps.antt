@@ -11,11 +11,10 @@ use lib.Seq.{getD-set-same, getD-set-other}
 use lib.Dec.{eqb}
 use Rattle.quotas.specs.Sum.{Σ, when, sum-lt, when-true, when-false, when-le}
 use Rattle.rules.specs.Kernel.{containerCode}
-use Rattle.tables.specs.Layout.{View, view, size, rowCount, linkCount, onTab, putT}
-use Rattle.tables.specs.Layout.Laws.{linkFrom-long}
+use Rattle.tables.specs.Layout.{View, view, size, rowCount, linkCount, linkFromT, onTab, putT}
+use Rattle.tables.specs.Layout.Laws.{tabOf-long}
 use Rattle.book.specs.Book.{codeOf, markOf, fromOf, toOf, liveLink}
 use Rattle.book.specs.Sound.{On}
-use Rattle.book.specs.Enact.{linkFromT}
 use Rattle.book.specs.Cut.{Goes, this, inside, Linked, Unlinked}
 use Rattle.book.specs.Laws.Tie.{test-on, on-test}
 
@@ -163,7 +162,7 @@ module _ (v : View) (l : ℕ) (on : On v l) where
 
 module _ (e : List ℕ) (l : ℕ) (ok : Linked e l) where
   pub begun : (b : List ℕ) → view b ≡ putT linkFromT l 0 (view e) → Sofar (view e) l 0 (view b)
-  begun b q = subst (Sofar (view e) l 0) (sym q) (start (view e) l (ok .on) (linkFrom-long e))
+  begun b q = subst (Sofar (view e) l 0) (sym q) (start (view e) l (ok .on) (tabOf-long e linkFromT))
 
   module _ (b : List ℕ) (k : ℕ) (s : Sofar (view e) l k (view b)) where
     pub links-fall : liveLinks (view b) < liveLinks (view e)

@@ -5,7 +5,7 @@ use native.Mathlib.Omega.{arith}
 use mathlib.Core.Bool.{Bool, true, false, cond, false≢true}
 use mathlib.Core.Path.{_≡_, refl, sym, _∙_, ap, ap₂, subst}
 use mathlib.Core.List.{List}
-use lib.ListN.{length, getD, length-set}
+use lib.ListN.{length, getD}
 use lib.Seq.{getD-set-same}
 use lib.Dec.{eqb}
 use borrow.Author.Tests.{eqb-true, eq-eqb, ne-eqb}
@@ -16,11 +16,12 @@ use Rattle.rules.specs.Sound as W
 use Rattle.rules.specs.Laws.KeepCut.{keep-cut}
 use Rattle.rules.specs.Laws.Bools.{bool-cases, not-both, same-by}
 use Rattle.rules.specs.Laws.Below.{stays-linked, stays-not-below, stays-kept, container-kept}
+use Rattle.tables.specs.Layout.{View, rowCount, linkCount, blockCount, nextT, kindT, linkFromT, ownerT}
 use Rattle.rules.specs.Laws.Worlds.{world-ext}
-use Rattle.tables.specs.Layout.{View, rowCount, linkCount, blockCount}
 use Rattle.book.specs.declared.Found.{Found}
 use Rattle.book.specs.declared.Found.the-variants.{At}
-use Rattle.book.specs.Book.{nextOf, rootOf, idOf, codeOf, fixedOf, lenOf, markOf, fromOf, toOf, ownerOf, indexOf, blocksOf, first, onFound, isBlock, blockAt, placeOf, collect, bytesOf, kindFrom, objectAt, rowOf, worldOf, ofKind, standing}
+use Rattle.book.specs.Book.{nextOf, rootOf, idOf, codeOf, fixedOf, lenOf, markOf, fromOf, toOf, ownerOf, indexOf, blocksOf, first, onFound, isBlock, blockAt, placeOf}
+use Rattle.book.specs.Book.{collect, bytesOf, kindFrom, objectAt, rowOf, worldOf, ofKind, standing}
 use Rattle.book.specs.Sound.{Live, On, Used, Owned, Sound, timesHeld}
 use Rattle.book.specs.Placed.{Placed}
 use Rattle.book.specs.Shape.{Shape}
@@ -31,6 +32,7 @@ use Rattle.book.specs.Laws.Codes.{segment-from}
 use Rattle.book.specs.Laws.Tie.{row-is, row-none, obj-found, obj-missing, obj-none, obj-at, container-at, linked-at, linked-is, world-next, world-root}
 use Rattle.book.specs.Laws.WorldSound.{placed, world-sound}
 use Rattle.book.specs.Laws.SoundBy.{sound-by}
+use Rattle.book.specs.Laws.Shapes.{on-shape, put-shape}
 
 -- ---- a number that stays where a test holds, and else is 0
 
@@ -323,7 +325,7 @@ module _ (v : View) (area : List ℕ) (shape : Shape v) (s : Sound v) (d o : ℕ
   pub cut-world : worldOf (movedOn (cutView d o v area)) (cutArea d o v area) ≡ apply (cut d o) (worldOf v area)
   cut-world = unfold apply in
       (world-ext (worldOf (movedOn (cutView d o v area)) (cutArea d o v area)) (apply (cut d o) (worldOf v area))
-      (world-next (movedOn (cutView d o v area)) (cutArea d o v area) ∙ moved-next v area d o (shape .next-long) ∙ ap suc (sym (world-next v area)))
+      (world-next (movedOn (cutView d o v area)) (cutArea d o v area) ∙ moved-next v area d o (shape .long nextT) ∙ ap suc (sym (world-next v area)))
       (world-root (movedOn (cutView d o v area)) (cutArea d o v area) ∙ moved-root v area d o ∙ sym (world-root v area))
       (left-obj v area shape s d o (movedOn (cutView d o v area)) (cut-left v area d o) (cutArea d o v area) (cut-left-bytes v area d o))
       (left-linked v area shape s d o (movedOn (cutView d o v area)) (cut-left v area d o) (cutArea d o v area)))
@@ -342,24 +344,8 @@ module _ (v : View) (area : List ℕ) (shape : Shape v) (s : Sound v) (d o : ℕ
 pub cut-shape : (v : View) (area : List ℕ) (d o : ℕ) → Shape v → Shape (movedOn (cutView d o v area))
 unfolding movedOn cutView
 cut-shape v area d o s =
-    record {
-      next-long = length-set (v .next) 0 (nextOf v + 1) ∙ s .next-long;
-      root-long = s .root-long;
-      id-long = s .id-long;
-      kind-long = collect-length rowCount _;
-      mask-long = s .mask-long;
-      fixed-long = s .fixed-long;
-      quota-long = s .quota-long;
-      len-long = s .len-long;
-      entry-long = s .entry-long;
-      labelDefault-long = s .labelDefault-long;
-      labelWords-long = s .labelWords-long;
-      clearDefault-long = s .clearDefault-long;
-      clearWords-long = s .clearWords-long;
-      description-long = s .description-long;
-      closure-long = s .closure-long;
-      linkFrom-long = collect-length linkCount _;
-      linkTo-long = s .linkTo-long;
-      owner-long = collect-length blockCount _;
-      index-long = s .index-long;
-    }
+    let u = cutView d o v area in
+    put-shape nextT 0 (nextOf v + 1) u
+    (on-shape ownerT (λ l. u .owner) _ (λ l e. collect-length blockCount _)
+    (on-shape linkFromT (λ l. u .linkFrom) _ (λ l e. collect-length linkCount _)
+    (on-shape kindT (λ l. u .kind) v (λ l e. collect-length rowCount _) s)))

@@ -24,7 +24,8 @@ use Rattle.book.specs.Laws.First.{on-at}
 use Rattle.book.specs.Laws.Tie.{row-found, world-next, live-row, thread-at, segment-at}
 use Rattle.book.specs.Laws.WorldSound.{placed, world-sound}
 use Rattle.book.specs.Laws.SoundBy.{sound-by}
-use Rattle.book.specs.Laws.Alter.{moved-placed, moved-shape, keep-world, relabelled-placed, relabelled-shape, relabelled-world, fixed-placed, fixed-shape, fixed-world, requotaed-placed, requotaed-shape, requotaed-world}
+use Rattle.book.specs.Laws.Alter.{moved-placed, moved-shape, keep-world, relabelled-placed, relabelled-shape, relabelled-world, fixed-placed, fixed-shape, fixed-world}
+use Rattle.book.specs.Laws.Alter.{requotaed-placed, requotaed-shape, requotaed-world}
 
 -- what a change leaves of a book and its data area
 pub record Enacted (h : Change) (v : View) (area : List ℕ) : Type 0 where
@@ -65,18 +66,24 @@ module _ (v : View) (area : List ℕ) (o r : ℕ) (e : Edit) (h : rowOf v o ≡ 
         shape = subst Shape (sym alter-view) (moved-shape (alteredView e r v) z);
       }
 
-module _ (v : View) (area : List ℕ) (s : Sound v) (z : Shape v) (o : ℕ) where
-  -- the row of a live object
-  at-row : {C : Type 0} → isLive (((worldOf v area) .obj o) .kind) ≡ true → ((r : ℕ) → Live v r → idOf v r ≡ o → rowOf v o ≡ At r → C) → C
+module _ (v : View) (area : List ℕ) (s : Sound v) (o : ℕ) where
+  -- The row of a live object,
+  pub at-row : {C : Type 0} → isLive (((worldOf v area) .obj o) .kind) ≡ true → ((r : ℕ) → Live v r → idOf v r ≡ o → rowOf v o ≡ At r → C) → C
   at-row t k =
       let (r, a, i) = live-row v area o t in
       k r a i (ap (rowOf v) (sym i) ∙ row-found v (placed v s) r a)
 
+  -- and the code there of a segment.
+  pub segment-code : (r : ℕ) → Live v r → idOf v r ≡ o → isSegment (((worldOf v area) .obj o) .kind) ≡ true → codeOf v r ≡ segmentCode
+  segment-code r a i e =
+      eqb-true (codeOf v r) segmentCode (sym (segment-at v area (placed v s) r a) ∙ ap (λ (n : ℕ). isSegment (((worldOf v area) .obj n) .kind)) i ∙ e)
+
+module _ (v : View) (area : List ℕ) (s : Sound v) (z : Shape v) (o : ℕ) where
   -- A thread gets new labels;
   pub relabel-enacted : (l c : Label) → Fair (worldOf v area) (alter o (relabel l c)) → Enacted (alter o (relabel l c)) v area
   unfolding alteredView alteredArea
   relabel-enacted l c f =
-      at-row (thread-live (((worldOf v area) .obj o) .kind) (f .is-thread)) (λ r a i h.
+      at-row v area s o (thread-live (((worldOf v area) .obj o) .kind) (f .is-thread)) (λ r a i h.
       let k = eqb-true (codeOf v r) threadCode (sym (thread-at v area (placed v s) r a) ∙ ap (λ (n : ℕ). isThread (((worldOf v area) .obj n) .kind)) i ∙ f .is-thread) in
       alter-enacted v area o r (relabel l c) h
       (relabelled-world v area (placed v s) z r a l c (omega arith) (f .label-words) (f .clearance-words) ∙ ap (λ (n : ℕ). apply (alter n (relabel l c)) (worldOf v area)) i)
@@ -87,10 +94,9 @@ module _ (v : View) (area : List ℕ) (s : Sound v) (z : Shape v) (o : ℕ) wher
   pub fix-enacted : Fair (worldOf v area) (alter o fix) → Enacted (alter o fix) v area
   unfolding alteredView alteredArea
   fix-enacted f =
-      at-row (segment-live (((worldOf v area) .obj o) .kind) f) (λ r a i h.
-      let k = eqb-true (codeOf v r) segmentCode (sym (segment-at v area (placed v s) r a) ∙ ap (λ (n : ℕ). isSegment (((worldOf v area) .obj n) .kind)) i ∙ f) in
+      at-row v area s o (segment-live (((worldOf v area) .obj o) .kind) f) (λ r a i h.
       alter-enacted v area o r fix h
-      (fixed-world v area (placed v s) z r a k ∙ ap (λ (n : ℕ). apply (alter n fix) (worldOf v area)) i)
+      (fixed-world v area (placed v s) z r a (segment-code v area s o r a i f) ∙ ap (λ (n : ℕ). apply (alter n fix) (worldOf v area)) i)
       (fixed-placed v r z (placed v s))
       (fixed-shape v z r))
 
@@ -98,7 +104,7 @@ module _ (v : View) (area : List ℕ) (s : Sound v) (z : Shape v) (o : ℕ) wher
   pub requota-enacted : (q : ℕ) → Fair (worldOf v area) (alter o (requota q)) → Enacted (alter o (requota q)) v area
   unfolding alteredView alteredArea
   requota-enacted q f =
-      at-row (or-cases (isSegment (((worldOf v area) .obj o) .kind)) (isContainer (((worldOf v area) .obj o) .kind)) (f .movable)
+      at-row v area s o (or-cases (isSegment (((worldOf v area) .obj o) .kind)) (isContainer (((worldOf v area) .obj o) .kind)) (f .movable)
       (segment-live (((worldOf v area) .obj o) .kind)) (container-live (((worldOf v area) .obj o) .kind))) (λ r a i h.
       alter-enacted v area o r (requota q) h
       (requotaed-world v area (placed v s) z r a q ∙ ap (λ (n : ℕ). apply (alter n (requota q)) (worldOf v area)) i)

@@ -1,28 +1,25 @@
 -- Every fair change of the rules is made on the book: its world becomes the changed world, and the book stays sound.
 use Prim.Native.Nat.{ℕ, _≤_}
 use native.Mathlib.Omega.{arith}
-use mathlib.Core.Bool.{true}
 use mathlib.Core.Path.{_≡_, sym, _∙_, ap}
 use mathlib.Core.List.{List}
 use lib.ListN.{length}
-use borrow.Author.Tests.{eqb-true}
-use Rattle.rules.specs.Kernel.{segmentCode, isLive, isSegment, relabel, fix, requota, rewrite, Change, keep, alter, create, cut, link, apply, lastNumber}
+use Rattle.rules.specs.Kernel.{relabel, fix, requota, rewrite, Change, keep, alter, create, cut, link, apply, lastNumber}
 use Rattle.rules.specs.Fair.{Fair}
 use Rattle.rules.specs.Laws.Kinds.{segment-live}
 use Rattle.tables.specs.Layout.{View}
-use Rattle.book.specs.declared.Found.the-variants.{At}
-use Rattle.book.specs.Book.{nextOf, idOf, codeOf, quotaOf, rowOf, worldOf}
-use Rattle.book.specs.Sound.{Live, Sound}
+use Rattle.book.specs.Book.{nextOf, quotaOf, worldOf}
+use Rattle.book.specs.Sound.{Sound}
 use Rattle.book.specs.Shape.{Shape}
 use Rattle.book.specs.Enact.{enactView, enactArea, alteredView, alteredArea}
-use Rattle.book.specs.Laws.Tie.{row-found, live-row, segment-at, quota-at}
+use Rattle.book.specs.Laws.Tie.{quota-at}
 use Rattle.book.specs.Laws.WorldSound.{placed}
 use Rattle.book.specs.Laws.Room.{block-room}
 use Rattle.book.specs.Laws.Filled.{Fresh}
 use Rattle.book.specs.Laws.Made.{create-enacted, link-enacted}
 use Rattle.book.specs.Laws.Rewrite.{rewritten-world, lengthened-placed, lengthened-shape}
 use Rattle.book.specs.Laws.CutWorld.{cut-world, cut-placed, cut-shape}
-use Rattle.book.specs.Laws.Enacted.{Enacted, enacted-sound, keep-enacted, alter-enacted, relabel-enacted, fix-enacted, requota-enacted}
+use Rattle.book.specs.Laws.Enacted.{Enacted, enacted-sound, keep-enacted, alter-enacted, at-row, segment-code, relabel-enacted, fix-enacted, requota-enacted}
 
 -- a row holds all of a new object, as it does of those that the four creates make
 abbrev pub Storable : Change → Type 0
@@ -33,17 +30,6 @@ Storable (cut d o) = Unit {0}
 Storable (link d o) = Unit {0}
 
 module _ (v : View) (area : List ℕ) (s : Sound v) (z : Shape v) where
-  -- the row of a live object
-  at-row : {C : Type 0} (o : ℕ) → isLive (((worldOf v area) .obj o) .kind) ≡ true → ((r : ℕ) → Live v r → idOf v r ≡ o → rowOf v o ≡ At r → C) → C
-  at-row o t k =
-      let (r, a, i) = live-row v area o t in
-      k r a i (ap (rowOf v) (sym i) ∙ row-found v (placed v s) r a)
-
-  -- the code of a segment's row
-  segment-code : (o r : ℕ) → Live v r → idOf v r ≡ o → isSegment (((worldOf v area) .obj o) .kind) ≡ true → codeOf v r ≡ segmentCode
-  segment-code o r a i e =
-      eqb-true (codeOf v r) segmentCode (sym (segment-at v area (placed v s) r a) ∙ ap (λ (n : ℕ). isSegment (((worldOf v area) .obj n) .kind)) i ∙ e)
-
   -- a link is cut with all that hangs on it;
   pub cut-enacted : (d o : ℕ) → Enacted (cut d o) v area
   unfolding enactView enactArea
@@ -53,8 +39,8 @@ module _ (v : View) (area : List ℕ) (s : Sound v) (z : Shape v) where
   pub rewrite-enacted : (o : ℕ) (b : List ℕ) → Fair (worldOf v area) (alter o (rewrite b)) → Enacted (alter o (rewrite b)) v area
   unfolding alteredView alteredArea
   rewrite-enacted o b f =
-      at-row o (segment-live (((worldOf v area) .obj o) .kind) (f .is-segment)) (λ r a i h.
-      let code = segment-code o r a i (f .is-segment) in
+      at-row v area s o (segment-live (((worldOf v area) .obj o) .kind) (f .is-segment)) (λ r a i h.
+      let code = segment-code v area s o r a i (f .is-segment) in
       let q : (((worldOf v area) .obj o) .quota) ≡ quotaOf v r = ap (λ (n : ℕ). ((worldOf v area) .obj n) .quota) (sym i) ∙ quota-at v area (placed v s) r a in
       let room = block-room v s r (length b) (a .low) code (omega (arith, f .within, q)) in
       alter-enacted v area o r (rewrite b) h

@@ -8,14 +8,15 @@ use lib.Seq.{getD-set-same, getD-set-other, length-take-le}
 use lib.Dec.{eqb}
 use Rattle.labels.specs.declared.Label.{Label}
 use Rattle.labels.specs.Core.{wordCount}
-use Rattle.labels.specs.Core.Same.{label-ext}
 use Rattle.rules.specs.Kernel.{Obj, kindCode, isThread, isGate, isSegment, isContainer, hasClearance, threadOf, gateOf, segmentOf, containerOf, textSize, plainObject}
+use Rattle.tables.specs.Layout.{View, rowCount, idT, kindT, maskT, fixedT, quotaT, lenT, entryT, labelDefaultT, labelWordsT, clearDefaultT, clearWordsT, descriptionT, closureT}
+use Rattle.book.specs.Book.{idOf, codeOf, maskOf, fixedOf, quotaOf, lenOf, entryOf, labelOf, clearanceOf, descriptionOf, closureOf, collect, placeOf, blockAt, bytesOf}
+use Rattle.book.specs.Book.{kindFrom, objectAt, ofKind, standing}
+use Rattle.book.specs.Shape.{Shape}
+use Rattle.book.specs.Enact.{padded, relabelled, rowFilled}
+use Rattle.labels.specs.Core.Same.{label-ext}
 use Rattle.rules.specs.Laws.Kinds.{kind-from}
 use Rattle.rules.specs.Laws.Worlds.{obj-ext}
-use Rattle.tables.specs.Layout.{View, rowCount}
-use Rattle.book.specs.Book.{idOf, codeOf, maskOf, fixedOf, quotaOf, lenOf, entryOf, labelOf, clearanceOf, descriptionOf, closureOf, collect, placeOf, blockAt, bytesOf, kindFrom, objectAt, ofKind, standing}
-use Rattle.book.specs.Shape.{Shape}
-use Rattle.book.specs.Enact.{idT, kindT, maskT, fixedT, quotaT, lenT, entryT, descriptionT, closureT, padded, relabelled, rowFilled}
 use Rattle.book.specs.Laws.Shapes.{put-shape, run-shape}
 use Rattle.book.specs.Laws.Alter.{run-here, run-elsewhere, relabelled-shape}
 use Rattle.book.specs.Laws.Handed.{padded-all}
@@ -134,31 +135,31 @@ module _ (v : View) (z : Shape v) (r id : ℕ) (x : Obj) (h : r < rowCount) wher
   -- The new numbers stand in it,
   pub filled-id : idOf (rowFilled r id x v) r ≡ id
   unfolding rowFilled relabelled
-  filled-id = getD-set-same (v .id) r id 0 (omega (arith, z .id-long))
+  filled-id = getD-set-same (v .id) r id 0 (omega (arith, z .long idT))
 
   pub filled-code : codeOf (rowFilled r id x v) r ≡ kindCode (x .kind)
   unfolding rowFilled relabelled
-  filled-code = getD-set-same (v .kind) r (kindCode (x .kind)) 0 (omega (arith, z .kind-long))
+  filled-code = getD-set-same (v .kind) r (kindCode (x .kind)) 0 (omega (arith, z .long kindT))
 
   pub filled-fixed : fixedOf (rowFilled r id x v) r ≡ 0
   unfolding rowFilled relabelled
-  filled-fixed = getD-set-same (v .fixed) r 0 0 (omega (arith, z .fixed-long))
+  filled-fixed = getD-set-same (v .fixed) r 0 0 (omega (arith, z .long fixedT))
 
   pub filled-len : lenOf (rowFilled r id x v) r ≡ 0
   unfolding rowFilled relabelled
-  filled-len = getD-set-same (v .len) r 0 0 (omega (arith, z .len-long))
+  filled-len = getD-set-same (v .len) r 0 0 (omega (arith, z .long lenT))
 
   filled-quota : quotaOf (rowFilled r id x v) r ≡ x .quota
   unfolding rowFilled relabelled
-  filled-quota = getD-set-same (v .quota) r (x .quota) 0 (omega (arith, z .quota-long))
+  filled-quota = getD-set-same (v .quota) r (x .quota) 0 (omega (arith, z .long quotaT))
 
   filled-mask : maskOf (rowFilled r id x v) r ≡ x .mask
   unfolding rowFilled relabelled
-  filled-mask = getD-set-same (v .mask) r (x .mask) 0 (omega (arith, z .mask-long))
+  filled-mask = getD-set-same (v .mask) r (x .mask) 0 (omega (arith, z .long maskT))
 
   filled-entry : entryOf (rowFilled r id x v) r ≡ x .entry
   unfolding rowFilled relabelled
-  filled-entry = getD-set-same (v .entry) r (x .entry) 0 (omega (arith, z .entry-long))
+  filled-entry = getD-set-same (v .entry) r (x .entry) 0 (omega (arith, z .long entryT))
 
   filled-kind : kindFrom (codeOf (rowFilled r id x v) r) ≡ x .kind
   filled-kind = ap kindFrom filled-code ∙ kind-from (x .kind)
@@ -166,26 +167,26 @@ module _ (v : View) (z : Shape v) (r id : ℕ) (x : Obj) (h : r < rowCount) wher
   filled-label : length ((x .label) .words) ≡ wordCount → labelOf (rowFilled r id x v) r ≡ x .label
   unfolding rowFilled relabelled
   filled-label k =
-      label-ext (labelOf (rowFilled r id x v) r) (x .label) (getD-set-same (v .labelDefault) r ((x .label) .default) 0 (omega (arith, z .labelDefault-long)))
-      (run-here (v .labelWords) rowCount wordCount r (padded wordCount ((x .label) .words)) (z .labelWords-long) h (padded-long wordCount ((x .label) .words))
+      label-ext (labelOf (rowFilled r id x v) r) (x .label) (getD-set-same (v .labelDefault) r ((x .label) .default) 0 (omega (arith, z .long labelDefaultT)))
+      (run-here (v .labelWords) rowCount wordCount r (padded wordCount ((x .label) .words)) (z .long labelWordsT) h (padded-long wordCount ((x .label) .words))
       ∙ padded-all wordCount ((x .label) .words) k)
 
   filled-clearance : clearanceOf (rowFilled r id x v) r ≡ record { default = (x .clearance) .default; words = padded wordCount ((x .clearance) .words) }
   unfolding rowFilled relabelled
   filled-clearance =
       label-ext (clearanceOf (rowFilled r id x v) r) (record { default = (x .clearance) .default; words = padded wordCount ((x .clearance) .words) })
-      (getD-set-same (v .clearDefault) r ((x .clearance) .default) 0 (omega (arith, z .clearDefault-long)))
-      (run-here (v .clearWords) rowCount wordCount r (padded wordCount ((x .clearance) .words)) (z .clearWords-long) h (padded-long wordCount ((x .clearance) .words)))
+      (getD-set-same (v .clearDefault) r ((x .clearance) .default) 0 (omega (arith, z .long clearDefaultT)))
+      (run-here (v .clearWords) rowCount wordCount r (padded wordCount ((x .clearance) .words)) (z .long clearWordsT) h (padded-long wordCount ((x .clearance) .words)))
 
   filled-description : length (x .description) ≡ textSize → descriptionOf (rowFilled r id x v) r ≡ x .description
   unfolding rowFilled relabelled
   filled-description k =
-      run-here (v .description) rowCount textSize r (padded textSize (x .description)) (z .description-long) h (padded-long textSize (x .description))
+      run-here (v .description) rowCount textSize r (padded textSize (x .description)) (z .long descriptionT) h (padded-long textSize (x .description))
       ∙ padded-all textSize (x .description) k
 
   filled-closure : closureOf (rowFilled r id x v) r ≡ padded textSize (x .closure)
   unfolding rowFilled relabelled
-  filled-closure = run-here (v .closure) rowCount textSize r (padded textSize (x .closure)) (z .closure-long) h (padded-long textSize (x .closure))
+  filled-closure = run-here (v .closure) rowCount textSize r (padded textSize (x .closure)) (z .long closureT) h (padded-long textSize (x .closure))
 
   -- a new segment has no bytes
   filled-bytes : (area : List ℕ) → bytesOf (rowFilled r id x v) area r ≡ []

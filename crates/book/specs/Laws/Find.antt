@@ -115,10 +115,6 @@ module _ (v : View) (area : List ℕ) (o : ℕ) where
       ∙ ne-eqb (codeOf v r) threadCode (λ q. no-place r (sym (kind-hit threadCode v o r e q) ∙ h)))
       (λ e. ap (λ (y : Obj). isThread (y .kind)) (obj-missing v area o e) ∙ nothing-no-thread)
 
-  -- So the row of every thread is found.
-  pub thread-some : isThread (((worldOf v area) .obj o) .kind) ≡ true → (r : ℕ) × (threadRow v o ≡ At r)
-  thread-some t = found-cases {C = (r : ℕ) × (threadRow v o ≡ At r)} (threadRow v o) (λ r e. (r, e)) (λ e. not-both (isThread (((worldOf v area) .obj o) .kind)) t (thread-none e))
-
   -- The same of containers.
   pub container-found : (r : ℕ) → containerRow v o ≡ At r → (isContainer (((worldOf v area) .obj o) .kind) ≡ true) × ((worldOf v area) .obj o ≡ objectAt v area r)
   container-found r h =
@@ -132,9 +128,6 @@ module _ (v : View) (area : List ℕ) (o : ℕ) where
       (λ r e. ap (λ (y : Obj). isContainer (y .kind)) (obj-found v area o r e) ∙ object-container v area r
       ∙ ne-eqb (codeOf v r) containerCode (λ q. no-place r (sym (kind-hit containerCode v o r e q) ∙ h)))
       (λ e. ap (λ (y : Obj). isContainer (y .kind)) (obj-missing v area o e) ∙ nothing-no-container)
-
-  pub container-some : isContainer (((worldOf v area) .obj o) .kind) ≡ true → (r : ℕ) × (containerRow v o ≡ At r)
-  container-some t = found-cases {C = (r : ℕ) × (containerRow v o ≡ At r)} (containerRow v o) (λ r e. (r, e)) (λ e. not-both (isContainer (((worldOf v area) .obj o) .kind)) t (container-none e))
 
 -- A container whose row is found is open to whoever may read the row's label; where none is found nothing is open.
 module _ (v : View) (area : List ℕ) (t : Obj) (d : ℕ) where

@@ -58,27 +58,15 @@ from-nothing zero i f u = refl
 from-nothing (suc n) i f u = rw (u i (omega arith) (omega arith)) (from-nothing n (suc i) f (λ j p q. u j (omega arith) (omega arith)))
 
 -- what it means that k is found
-pub record Lowest (n i : ℕ) (f : ℕ → Bool) (k : ℕ) : Type 0 where
-  pub from : i ≤ k
-  pub low : k < i + n
-  pub hit : f k ≡ true
-  pub none : (j : ℕ) → i ≤ j → j < k → f j ≡ false
-
-pub from-found : (n i : ℕ) (f : ℕ → Bool) (k : ℕ) → firstFrom n i f ≡ At k → Lowest n i f k
+from-found : (n i : ℕ) (f : ℕ → Bool) (k : ℕ) → firstFrom n i f ≡ At k → (k < i + n) × (f k ≡ true)
 unfolding firstFrom
 from-found zero i f k e = absurd (no-place k (sym e))
 from-found (suc n) i f k e = go (λ q. from-found n (suc i) f k q) (f i) refl e
   where
-    below : f i ≡ false → Lowest n (suc i) f k → (j : ℕ) → i ≤ j → j < k → f j ≡ false
-    below t l j p q = elim (ℕ-discrete i j) [ yes z ↦ ap f (sym z) ∙ t | no z ↦ l .none j (omega arith) q ]
-
-    go : (firstFrom n (suc i) f ≡ At k → Lowest n (suc i) f k) → (b : Bool) → f i ≡ b → cond b (At i) (firstFrom n (suc i) f) ≡ At k → Lowest (suc n) i f k
-    go more true t e =
-        let z = same-place i k e in
-        record { from = omega arith; low = omega arith; hit = ap f (sym z) ∙ t; none = λ j p q. absurd (omega arith) }
-    go more false t e =
-        let l = more e in
-        record { from = omega (arith, l .from); low = omega (arith, l .low); hit = l .hit; none = below t l }
+    go : (firstFrom n (suc i) f ≡ At k → (k < suc i + n) × (f k ≡ true)) → (b : Bool) → f i ≡ b → cond b (At i) (firstFrom n (suc i) f) ≡ At k
+        → (k < i + suc n) × (f k ≡ true)
+    go more true t e = let z = same-place i k e in (omega arith, ap f (sym z) ∙ t)
+    go more false t e = let (low, hit) = more e in (omega arith, hit)
 
 -- what it means that nothing is found
 pub from-none : (n i : ℕ) (f : ℕ → Bool) → firstFrom n i f ≡ Nothing → (j : ℕ) → i ≤ j → j < i + n → f j ≡ false
@@ -115,17 +103,13 @@ module _ (n : ℕ) (f : ℕ → Bool) where
   pub first-nothing : ((j : ℕ) → j < n → f j ≡ false) → first n f ≡ Nothing
   first-nothing u = from-nothing n 0 f (λ j p q. u j (omega arith))
 
-  -- What is found is below n,
+  -- What is found is below n
   pub first-low : (k : ℕ) → first n f ≡ At k → k < n
-  first-low k e = omega (arith, from-found n 0 f k e .low)
+  first-low k e = omega (arith, from-found n 0 f k e .0)
 
-  -- passes the test,
+  -- and passes the test.
   pub first-hit : (k : ℕ) → first n f ≡ At k → f k ≡ true
-  first-hit k e = from-found n 0 f k e .hit
-
-  -- and is the lowest that does.
-  pub first-lowest : (k : ℕ) → first n f ≡ At k → (j : ℕ) → j < k → f j ≡ false
-  first-lowest k e j l = from-found n 0 f k e .none j (omega arith) l
+  first-hit k e = from-found n 0 f k e .1
 
   -- Where nothing is found, the test fails everywhere.
   pub first-none : first n f ≡ Nothing → (j : ℕ) → j < n → f j ≡ false

@@ -8,11 +8,12 @@ use lib.ListN.{length, replicate, length-replicate}
 use lib.Seq.{take-at, take-all}
 use Rattle.labels.specs.declared.Label.{Label}
 use Rattle.labels.specs.Core.{wordCount, plain}
-use Rattle.rules.specs.Kernel.{threadCode, gateCode, segmentCode, containerCode, Kind, thread, gate, segment, container, kindCode, isThread, isGate, isSegment, isContainer, hasClearance, blank, threadOf, gateOf, segmentOf, containerOf, textSize}
-use Rattle.rules.specs.Laws.Kinds.{kind-from}
-use Rattle.tables.specs.Layout.{View, putT, runT}
+use Rattle.rules.specs.Kernel.{threadCode, gateCode, segmentCode, containerCode, kindCode, blank, threadOf, gateOf, segmentOf, containerOf, textSize, Kind, thread, gate, segment}
+use Rattle.rules.specs.Kernel.{container, isThread, isGate, isSegment, isContainer, hasClearance}
+use Rattle.tables.specs.Layout.{View, idT, kindT, maskT, fixedT, quotaT, lenT, entryT, labelDefaultT, labelWordsT, clearDefaultT, clearWordsT, descriptionT, closureT, putT, runT}
 use Rattle.book.specs.declared.make.NewRow.{NewRow}
-use Rattle.book.specs.Enact.{idT, kindT, maskT, fixedT, quotaT, lenT, entryT, labelDefaultT, labelWordsT, clearDefaultT, clearWordsT, descriptionT, closureT, padded, relabelled, rowFilled}
+use Rattle.book.specs.Enact.{padded, relabelled, rowFilled}
+use Rattle.rules.specs.Laws.Kinds.{kind-from}
 use Rattle.book.specs.Book.{kindFrom}
 use Rattle.book.specs.Make.{objectOf, Handed, numbersFilled}
 

@@ -14,10 +14,10 @@ use borrow.Author.Tests.{eqb-true, eq-eqb, leb-true, leb-false, le-leb}
 use Rattle.quotas.specs.Any.{no-both, both-of, both-parts}
 use Rattle.rules.specs.Kernel.{blockSize}
 use Rattle.rules.specs.Laws.Bools.{bool-cases, not-i}
-use Rattle.tables.specs.Layout.{View, blockCount, onTab, putT}
+use Rattle.tables.specs.Layout.{View, blockCount, lenT, ownerT, indexT, onTab, putT}
 use Rattle.book.specs.declared.Found.the-variants.{At}
 use Rattle.book.specs.Book.{lenOf, ownerOf, indexOf, blocksOf}
-use Rattle.book.specs.Enact.{areaSize, lenT, ownerT, indexT, freeBlock, blockAdded, blocksAdded, blocksDropped, lengthened}
+use Rattle.book.specs.Enact.{areaSize, freeBlock, blockAdded, blocksAdded, blocksDropped, lengthened}
 use Rattle.book.specs.Resize.{isPast, blockCleared, freeCleared, freesCleared}
 use Rattle.book.specs.Laws.First.{found-cases, first-hit, collect-length, collect-at, collect-is}
 use Rattle.book.specs.Laws.Room.{freeBlocks, block-found, block-taken}

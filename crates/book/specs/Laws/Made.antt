@@ -16,7 +16,7 @@ use Rattle.book.specs.Sound.{Live, Sound}
 use Rattle.book.specs.Placed.{Placed}
 use Rattle.book.specs.Shape.{Shape}
 use Rattle.book.specs.Enact.{movedOn, freeRow, freeLink, rowFilled, linkFilled, enactView, enactArea}
-use Rattle.book.specs.Make.{placeFor, createdIn}
+use Rattle.book.specs.Make.{createdIn}
 use Rattle.book.specs.Laws.Tie.{row-found, live-row, container-at}
 use Rattle.book.specs.Laws.WorldSound.{placed, world-sound}
 use Rattle.book.specs.Laws.Enacted.{Enacted}
@@ -45,12 +45,6 @@ module _ (v : View) (area : List ℕ) (z : Shape v) (s : Sound v) where
         let (c₂, a₂, i, k) = container-row (idOf v c) (m .is-container) in
         create-room v area s c₂ a₂ k
         (subst (λ (d : ℕ). 1 ≤ spareOf (worldOf v area) d) (sym i) (spare-some (idOf v c) (x .quota) (m .whole .range .quota-some) (m .room)))
-
-    -- so that the place is one,
-    pub create-answers : (c : ℕ) → Live v c → Made (worldOf v area) (idOf v c) x → (r : ℕ) × (placeFor v ≡ At r)
-    create-answers c a m =
-        let (r, l, row, place) = create-found c a m in
-        (r, sym (both-free c x v r l row place .0))
 
     -- and is enacted.
     pub create-enacted : (d : ℕ) → Fair (worldOf v area) (create d x) → Enacted (create d x) v area

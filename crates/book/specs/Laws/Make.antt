@@ -15,13 +15,13 @@ use Rattle.rules.specs.Laws.Bools.{not-i, not-both, same-by}
 use Rattle.rules.specs.Laws.Put.{put-same, put-other, link-new, link-old, link-cases}
 use Rattle.rules.specs.Laws.Kinds.{kind-most}
 use Rattle.rules.specs.Laws.Worlds.{world-ext}
-use Rattle.tables.specs.Layout.{View, rowCount, linkCount}
+use Rattle.tables.specs.Layout.{View, rowCount, linkCount, nextT, linkFromT, linkToT}
 use Rattle.book.specs.declared.Found.the-variants.{At}
 use Rattle.book.specs.Book.{nextOf, rootOf, idOf, codeOf, fixedOf, lenOf, markOf, fromOf, toOf, ownerOf, indexOf, liveRow, blocksOf, placeOf, blockAt, bytesOf, objectAt, hasId, rowOf, worldOf}
 use Rattle.book.specs.Sound.{Live, On, Used, Owned, Sound, timesHeld}
 use Rattle.book.specs.Placed.{Placed}
 use Rattle.book.specs.Shape.{Shape}
-use Rattle.book.specs.Enact.{linkFromT, linkToT, movedOn, relabelled, freeRow, freeLink, rowFilled, linkFilled}
+use Rattle.book.specs.Enact.{movedOn, relabelled, freeRow, freeLink, rowFilled, linkFilled}
 use Rattle.book.specs.Laws.First.{first-only, first-cong, first-hit, found-cases}
 use Rattle.book.specs.Laws.Tie.{test-live, live-test, row-is, obj-found, obj-missing, linked-at, linked-is, rows-linked}
 use Rattle.book.specs.Laws.WorldSound.{placed}
@@ -29,7 +29,8 @@ use Rattle.book.specs.Laws.Room.{spare-row-room, spare-link-room}
 use Rattle.book.specs.Laws.Shapes.{put-shape}
 use Rattle.book.specs.Laws.Alter.{moved-row, moved-object, moved-linked, moved-root, moved-next, moved-shape, moved-placed}
 use Rattle.book.specs.Laws.Places.{free-row-low, link-low}
-use Rattle.book.specs.Laws.Filled.{Fresh, filled-id-other, filled-code-other, filled-fixed-other, filled-len-other, filled-object-other, filled-id, filled-code, filled-fixed, filled-len, filled-object, filled-shape}
+use Rattle.book.specs.Laws.Filled.{Fresh, filled-id-other, filled-code-other, filled-fixed-other, filled-len-other, filled-object-other, filled-id, filled-code, filled-fixed}
+use Rattle.book.specs.Laws.Filled.{filled-len, filled-object, filled-shape}
 
 -- What is found is free.
 pub row-free : (v : View) (r : ℕ) → freeRow v ≡ At r → codeOf v r ≡ 0
@@ -192,11 +193,11 @@ module _ (v : View) (z : Shape v) (p : Placed v) (r id : ℕ) (x : Obj) (f : Fre
 module _ (v : View) (z : Shape v) (l c o : ℕ) (h : l < linkCount) (free : markOf v l ≡ 0) where
   mark-new : markOf (linkFilled l c o v) l ≡ c + 1
   unfolding linkFilled
-  mark-new = getD-set-same (v .linkFrom) l (c + 1) 0 (omega (arith, z .linkFrom-long))
+  mark-new = getD-set-same (v .linkFrom) l (c + 1) 0 (omega (arith, z .long linkFromT))
 
   to-new : toOf (linkFilled l c o v) l ≡ o
   unfolding linkFilled
-  to-new = getD-set-same (v .linkTo) l o 0 (omega (arith, z .linkTo-long))
+  to-new = getD-set-same (v .linkTo) l o 0 (omega (arith, z .long linkToT))
 
   from-new : fromOf (linkFilled l c o v) l ≡ c
   from-new = omega (arith, mark-new)
@@ -407,7 +408,7 @@ module _ (v : View) (area : List ℕ) (z : Shape v) (s : Sound v) (c : ℕ) (a :
   unfolding filled worldOf apply linkIn
   create-world =
       world-ext (worldOf (movedOn (linkFilled l c r filled)) area) (apply (create (idOf v c) x) (worldOf v area))
-      (moved-next (linkFilled l c r filled) (linked-shape filled long l c r (link-low v l place) spot .next-long) ∙ ap suc (next-made v l c r (nextOf v) x))
+      (moved-next (linkFilled l c r filled) (linked-shape filled long l c r (link-low v l place) spot .long nextT) ∙ ap suc (next-made v l c r (nextOf v) x))
       (moved-root (linkFilled l c r filled) ∙ root-made v l c r (nextOf v) x)
       (λ o. moved-obj (linkFilled l c r filled) area o ∙ linked-obj filled long l c r (link-low v l place) spot area o ∙ objects o)
       (λ d o. moved-linked (linkFilled l c r filled) area d o ∙ linked-more filled long l c r (link-low v l place) spot area d o
@@ -441,7 +442,7 @@ module _ (v : View) (area : List ℕ) (z : Shape v) (s : Sound v) (c o : ℕ) (a
   unfolding worldOf apply
   link-world =
       world-ext (worldOf (movedOn (linkFilled l c o v)) area) (apply (link (idOf v c) (idOf v o)) (worldOf v area))
-      (moved-next (linkFilled l c o v) (linked-shape v z l c o (link-low v l place) (link-free v l place) .next-long) ∙ ap suc (next-joined v l c o))
+      (moved-next (linkFilled l c o v) (linked-shape v z l c o (link-low v l place) (link-free v l place) .long nextT) ∙ ap suc (next-joined v l c o))
       (moved-root (linkFilled l c o v) ∙ root-joined v l c o)
       (λ p. moved-obj (linkFilled l c o v) area p ∙ linked-obj v z l c o (link-low v l place) (link-free v l place) area p)
       (λ d p. moved-linked (linkFilled l c o v) area d p ∙ linked-more v z l c o (link-low v l place) (link-free v l place) area d p)

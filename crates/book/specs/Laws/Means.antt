@@ -45,7 +45,8 @@ module _ (v : View) where
       let l2 = and-r (every rowCount (λ r. tieB v r (linksTo v r) (chargedTo v r))) _ l1 in
       let row : (r : ℕ) → Live v r → Row v r = λ r live. row-of v r live (every-of rowCount (rowB v) (and-r (leb (nextOf v) (suc lastNumber)) _ rs) r (live .low)) in
       let link : (l : ℕ) → On v l → Ends v l × Masked v l = λ l on. link-of v l on (every-of linkCount (linkB v) (and-l (every linkCount (linkB v)) _ ls) l (on .low)) in
-      let tie : (r : ℕ) → Live v r → TieAt r = λ r live. tie-of v r (linksTo v r) (chargedTo v r) live (every-of rowCount (λ r. tieB v r (linksTo v r) (chargedTo v r)) (and-l (every rowCount (λ r. tieB v r (linksTo v r) (chargedTo v r))) _ l1) r (live .low)) in
+      let tie : (r : ℕ) → Live v r → TieAt r = λ r live. tie-of v r (linksTo v r) (chargedTo v r) live
+      (every-of rowCount (λ r. tieB v r (linksTo v r) (chargedTo v r)) (and-l (every rowCount (λ r. tieB v r (linksTo v r) (chargedTo v r))) _ l1) r (live .low)) in
       let blocks = blocks-of v (and-r (linksB v) _ h1) in
       record {
         next-most = leb-true (nextOf v) (suc lastNumber) (and-l (leb (nextOf v) (suc lastNumber)) _ rs);
@@ -86,7 +87,15 @@ module _ (v : View) where
       rw (
         le-leb (nextOf v) (suc lastNumber) (s .next-most),
         every-by rowCount (rowB v) (λ r low. row-by v r low (λ live.
-            record { range = s .ranges r live; id-from = s .ids-from r live; id-below = s .ids-below r live; id-new = λ t w l. s .ids-apart r t live w l; label = s .labels r live; clearance = s .clearances r live; flow = s .flow r live })),
+            record {
+              range = s .ranges r live;
+              id-from = s .ids-from r live;
+              id-below = s .ids-below r live;
+              id-new = λ t w l. s .ids-apart r t live w l;
+              label = s .labels r live;
+              clearance = s .clearances r live;
+              flow = s .flow r live;
+            })),
         every-by linkCount (linkB v) (λ l low. link-by v l low (λ on. (s .ends l on, s .masks l on))),
         every-by rowCount (λ r. tieB v r (linksTo v r) (chargedTo v r)) (λ r low. tie-by v r (linksTo v r) (chargedTo v r) low (λ live. (
           record {
@@ -112,7 +121,11 @@ pub areas-mean : (b area : List ℕ) → areasB b area ≡ true ↔ ((length b �
 unfolding areasB
 areas-mean b area = (
   λ h.
-      let h1 = and-r (eqb (length b) size) _ h in
-      (eqb-true (length b) size (and-l (eqb (length b) size) _ h), eqb-true (length area) areaSize (and-l (eqb (length area) areaSize) _ h1), of-test (view b) (and-r (eqb (length area) areaSize) _ h1)),
+      let h1 = and-r (eqb (length b) size) _ h in (
+        eqb-true (length b) size (and-l (eqb (length b) size) _ h),
+        eqb-true (length area) areaSize (and-l (eqb (length area) areaSize) _ h1),
+        of-test (view b)
+            (and-r (eqb (length area) areaSize) _ h1),
+      ),
   λ p. rw (eq-eqb (length b) size (p .0), eq-eqb (length area) areaSize (p .1)) (by-test (view b) (p .2)),
 )

@@ -65,7 +65,13 @@ module _ (v : View) where
       unless-by (eqb (markOf v l) 0) _ (λ e.
       let p = f (record { low = low; used = eqb-false (markOf v l) 0 e }) in
       let s = p .0 in
-      rw (lt-ltb (fromOf v l) rowCount (s .from-low), lt-ltb (toOf v l) rowCount (s .to-low), eq-eqb (codeOf v (fromOf v l)) containerCode (s .from-container), not-by (eqb (codeOf v (toOf v l)) 0) (λ t. s .to-live (eqb-true (codeOf v (toOf v l)) 0 t)))
+      rw (
+        lt-ltb (fromOf v l) rowCount (s .from-low),
+        lt-ltb (toOf v l) rowCount (s .to-low),
+        eq-eqb (codeOf v (fromOf v l)) containerCode (s .from-container),
+        not-by
+            (eqb (codeOf v (toOf v l)) 0) (λ t. s .to-live (eqb-true (codeOf v (toOf v l)) 0 t)),
+      )
       (only-by (eqb (codeOf v (toOf v l)) containerCode) _ (λ t. eq-eqb _ _ (p .1 (eqb-true (codeOf v (toOf v l)) containerCode t)))))
 
   -- A live link counts at its object.

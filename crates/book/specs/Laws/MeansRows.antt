@@ -26,19 +26,48 @@ range-of : (code q n fixed mask : ℕ) → rangeN code q n fixed mask ≡ true �
 unfolding rangeN
 range-of code q n fixed mask h = go (isThreadOrGate code) refl h
   where
-    large : gateCode < code → 1 ≤ q → q ≤ rootQuota → (b : Bool) → eqb code segmentCode ≡ b → cond b (leb n maxLength && leb fixed 1) (eqb code containerCode && leb mask maxMask) ≡ true → Range code q n fixed mask
+    large : gateCode < code → 1 ≤ q → q ≤ rootQuota → (b : Bool) → eqb code segmentCode ≡ b → cond b (leb n maxLength && leb fixed 1) (eqb code containerCode && leb mask maxMask)
+        ≡ true → Range code q n fixed mask
     large g lo hi true e x =
         let k = eqb-true code segmentCode e in
-        record { code-most = omega arith; quota-some = lo; quota-most = hi; quota-one = λ z. absurd (omega arith); length-most = λ z. leb-true n maxLength (and-l (leb n maxLength) _ x); fixed-most = λ z. leb-true fixed 1 (and-r (leb n maxLength) _ x); mask-most = λ z. absurd (omega arith) }
+        record {
+          code-most = omega arith;
+          quota-some = lo;
+          quota-most = hi;
+          quota-one = λ z. absurd (omega arith);
+          length-most = λ z. leb-true n maxLength
+              (and-l (leb n maxLength) _ x);
+          fixed-most = λ z. leb-true fixed 1 (and-r (leb n maxLength) _ x);
+          mask-most = λ z. absurd (omega arith);
+        }
     large g lo hi false e x =
         let k = eqb-true code containerCode (and-l (eqb code containerCode) _ x) in
-        record { code-most = omega arith; quota-some = lo; quota-most = hi; quota-one = λ z. absurd (omega arith); length-most = λ z. absurd (omega arith); fixed-most = λ z. absurd (omega arith); mask-most = λ z. leb-true mask maxMask (and-r (eqb code containerCode) _ x) }
+        record {
+          code-most = omega arith;
+          quota-some = lo;
+          quota-most = hi;
+          quota-one = λ z. absurd (omega arith);
+          length-most = λ z. absurd (omega arith);
+          fixed-most = λ z. absurd
+              (omega arith);
+          mask-most = λ z. leb-true mask maxMask (and-r (eqb code containerCode) _ x);
+        }
 
-    go : (b : Bool) → isThreadOrGate code ≡ b → cond b (eqb q 1) (leb 1 q && (leb q rootQuota && (cond (eqb code segmentCode) (leb n maxLength && leb fixed 1) (eqb code containerCode && leb mask maxMask)))) ≡ true → Range code q n fixed mask
+    go : (b : Bool) → isThreadOrGate code ≡ b → cond b (eqb q 1)
+        (leb 1 q && (leb q rootQuota && (cond (eqb code segmentCode) (leb n maxLength && leb fixed 1) (eqb code containerCode && leb mask maxMask)))) ≡ true → Range code q n fixed mask
     go true e x =
         let k = leb-true code gateCode e in
         let u = eqb-true q 1 x in
-        record { code-most = omega arith; quota-some = omega arith; quota-most = omega arith; quota-one = λ z. u; length-most = λ z. absurd (omega arith); fixed-most = λ z. absurd (omega arith); mask-most = λ z. absurd (omega arith) }
+        record {
+          code-most = omega arith;
+          quota-some = omega arith;
+          quota-most = omega arith;
+          quota-one = λ z. u;
+          length-most = λ z. absurd (omega arith);
+          fixed-most = λ z. absurd
+              (omega arith);
+          mask-most = λ z. absurd (omega arith);
+        }
     go false e x =
         let y = and-r (leb 1 q) _ x in
         large (leb-false code gateCode e) (leb-true 1 q (and-l (leb 1 q) _ x)) (leb-true q rootQuota (and-l (leb q rootQuota) _ y)) (eqb code segmentCode) refl (and-r (leb q rootQuota) _ y)
@@ -51,7 +80,8 @@ range-by code q n fixed mask s = go (isThreadOrGate code) refl
     large g true e = rw (le-leb n maxLength (s .length-most (eqb-true code segmentCode e)), le-leb fixed 1 (s .fixed-most (eqb-true code segmentCode e)))
     large g false e = let k = last code g (s .code-most) (eqb-false code segmentCode e) in rw (eq-eqb code containerCode k, le-leb mask maxMask (s .mask-most k))
 
-    go : (b : Bool) → isThreadOrGate code ≡ b → cond b (eqb q 1) (leb 1 q && (leb q rootQuota && (cond (eqb code segmentCode) (leb n maxLength && leb fixed 1) (eqb code containerCode && leb mask maxMask)))) ≡ true
+    go : (b : Bool) → isThreadOrGate code ≡ b → cond b (eqb q 1)
+        (leb 1 q && (leb q rootQuota && (cond (eqb code segmentCode) (leb n maxLength && leb fixed 1) (eqb code containerCode && leb mask maxMask)))) ≡ true
     go true e = eq-eqb q 1 (s .quota-one (leb-true code gateCode e))
     go false e = rw (le-leb 1 q (s .quota-some), le-leb q rootQuota (s .quota-most)) (large (leb-false code gateCode e) (eqb code segmentCode) refl)
 
@@ -121,7 +151,8 @@ fits-of code q n u h = go (eqb code containerCode) refl h
   where
     go : (b : Bool) → eqb code containerCode ≡ b → cond b (leb (1 + u) q) (cond (eqb code segmentCode) (leb (units n) q) true) ≡ true → Fits code q n u
     go true e x = let k = eqb-true code containerCode e in record { container = λ y. leb-true (1 + u) q x; segment = λ y. absurd (omega arith) }
-    go false e x = record { container = λ y. absurd (eqb-false code containerCode e y); segment = λ y. leb-true (units n) q (only (eqb code segmentCode) (leb (units n) q) x (eq-eqb code segmentCode y)) }
+    go false e x =
+        record { container = λ y. absurd (eqb-false code containerCode e y); segment = λ y. leb-true (units n) q (only (eqb code segmentCode) (leb (units n) q) x (eq-eqb code segmentCode y)) }
 
 fits-by : (code q n u : ℕ) → Fits code q n u → fitsN code q n u ≡ true
 unfolding fitsN
@@ -140,7 +171,8 @@ tie-of v r n u live h =
     let x = unless (eqb (codeOf v r) 0) (T && F) h (ne-eqb (codeOf v r) 0 (live .used)) in
     (tied-of (eqb (idOf v r) (rootOf v)) (codeOf v r) (fixedOf v r) (quotaOf v r) n (and-l T F x), fits-of (codeOf v r) (quotaOf v r) (lenOf v r) u (and-r T F x))
 
-pub tie-by : (v : View) (r n u : ℕ) → r < rowCount → (Live v r → Tied (eqb (idOf v r) (rootOf v)) (codeOf v r) (fixedOf v r) (quotaOf v r) n × Fits (codeOf v r) (quotaOf v r) (lenOf v r) u) → tieB v r n u ≡ true
+pub tie-by : (v : View) (r n u : ℕ) → r < rowCount → (Live v r → Tied (eqb (idOf v r) (rootOf v)) (codeOf v r) (fixedOf v r) (quotaOf v r) n × Fits (codeOf v r) (quotaOf v r)
+    (lenOf v r) u) → tieB v r n u ≡ true
 unfolding tieB
 tie-by v r n u low f =
     unless-by (eqb (codeOf v r) 0) _ (λ e.
@@ -190,7 +222,8 @@ module _ (v : View) where
       let i = and-l (idB v r) (labelB v r) h1 in
       let i1 = and-r (leb 1 (idOf v r)) _ i in
       let w = and-r (idB v r) (labelB v r) h1 in
-      let c : ThreadOrGate (codeOf v r) → (C && flows (labelOf v r) (clearanceOf v r)) ≡ true = λ small. only (isThreadOrGate (codeOf v r)) (clearB v r) (and-r W _ w) (le-leb (codeOf v r) gateCode small) in
+      let c : ThreadOrGate (codeOf v r) → (C && flows (labelOf v r) (clearanceOf v r)) ≡ true = λ small. only (isThreadOrGate (codeOf v r)) (clearB v r) (and-r W _ w)
+      (le-leb (codeOf v r) gateCode small) in
       record {
         range = range-of _ _ _ _ _ (and-l (rangeB v r) _ h0);
         id-from = leb-true 1 (idOf v r) (and-l (leb 1 (idOf v r)) _ i);

@@ -11,13 +11,13 @@ use lib.ListN.{length, getD, List·getD-eq-default}
 use lib.Dec.{eqb, leb, ltb}
 use borrow.Author.Tests.{eqb-true, leb-true, leb-false, ltb-true, ltb-false, lt-leb}
 use Rattle.quotas.specs.Any.{no-both, both-parts}
-use Rattle.rules.specs.Kernel.{segmentCode, blockSize, rewrite, alter, resized, apply, units}
+use Rattle.rules.specs.Kernel.{segmentCode, blockSize, rewrite, alter, resized}
 use Rattle.rules.specs.Laws.Bools.{bool-cases}
 use Rattle.rules.specs.Laws.Bytes.{resized-at}
 use Rattle.rules.specs.Laws.Lengths.{resized-length}
-use Rattle.tables.specs.Layout.{View, rowCount, blockCount}
+use Rattle.tables.specs.Layout.{View, rowCount, blockCount, indexT}
 use Rattle.book.specs.declared.Found.the-variants.{At}
-use Rattle.book.specs.Book.{idOf, codeOf, quotaOf, lenOf, ownerOf, indexOf, blocksOf, isBlock, first, bytesOf, rowOf, worldOf}
+use Rattle.book.specs.Book.{idOf, codeOf, lenOf, ownerOf, indexOf, blocksOf, isBlock, first, bytesOf, rowOf}
 use Rattle.book.specs.Sound.{Live, Sound}
 use Rattle.book.specs.Placed.{Placed}
 use Rattle.book.specs.Shape.{Shape}
@@ -26,11 +26,10 @@ use Rattle.book.specs.Resize.{isPast, wipedTo, edgeEnd, edgeCleared, bet
 use Rattle.book.specs.Laws.First.{found-cases, first-hit, on-at, collect-is}
 use Rattle.book.specs.Laws.Tie.{code-live, row-found, bytes-length}
 use Rattle.book.specs.Laws.WorldSound.{placed}
-use Rattle.book.specs.Laws.Room.{freeBlocks, block-room}
-use Rattle.book.specs.Laws.Cleared.{if-true, if-false, cleared-length, cleared-in, cleared-out, wiped-length, wiped-in, wiped-out, edge-span, edge-at, edge-nothing, between-less, between-more}
+use Rattle.book.specs.Laws.Cleared.{if-true, if-false, cleared-in, cleared-out, wiped-length, wiped-in, wiped-out, edge-span, edge-at, edge-nothing, between-less, between-more}
 use Rattle.book.specs.Laws.Blocks.{Held, held, held-found, test-block, place-back}
 use Rattle.book.specs.Laws.Lengthened.{drop-out, drop-keep, drop-index, drop-long, is-past, added-each, added-area-long}
-use Rattle.book.specs.Laws.Rewrite.{spot, byte-mine, byte-stays, byte-freed, byte-new, byte-gone, byte-else, byte-of, lengthened-placed, lengthened-shape, rewritten-world}
+use Rattle.book.specs.Laws.Rewrite.{spot, byte-mine, byte-stays, byte-freed, byte-new, byte-gone, byte-else, byte-of}
 
 -- ---- the block in which the shorter length ends
 
@@ -68,11 +67,6 @@ module _ (v : View) (r m : ℕ) (h : Held v r m) (area : List ℕ) (lo hi : ℕ)
       let z = edge-short lo hi le (j % blockSize) (omega arith) in
       n (ap (ownerOf v) q ∙ o) (omega arith) (omega arith)))
       (λ e. ap (λ (y : List ℕ). getD y j 0) (edge-nothing r lo hi v area e))
-
-edge-long : (r lo hi : ℕ) (v : View) (area : List ℕ) → length (edgeCleared r lo hi v area) ≡ length area
-edge-long r lo hi v area = found-cases (first blockCount (isBlock v r (lo / blockSize)))
-    (λ x e. ap (λ (y : List ℕ). length y) (edge-at r lo hi v area x e) ∙ cleared-length (blockSize * x + lo % blockSize) (blockSize * x + edgeEnd lo hi) area)
-    (λ e. ap (λ (y : List ℕ). length y) (edge-nothing r lo hi v area e))
 
 module _ (v : View) (r : ℕ) (h : Held v r (blocksOf (lenOf v r))) (area : List ℕ) (long : length area ≡ areaSize) (n j : ℕ) (l : j < areaSize) where
   -- A byte of the segment from the new to before the old length, in a block that stays, is 0,
@@ -183,7 +177,7 @@ module _ (v : View) (shape : Shape v) (p : Placed v) (r : ℕ) (a : Live v r) (c
       omega (arith, k .low, k .high))
       (λ t. omega (arith, k .free, drop-keep r (blocksOf n) v (j / blockSize) x t)))))
       (added-each r (blocksOf n - blocksOf (lenOf v r)) (blocksOf (lenOf v r)) (blocksDropped r (blocksOf n) v) (wipedTo blockCount r (blocksOf n) v (betweenCleared r (lenOf v r) n v area))
-      (drop-long r (blocksOf n) v) (unfold blocksDropped in (shape .index-long)) (wiped-length r (blocksOf n) v (betweenCleared r (lenOf v r) n v area) blockCount) (j / blockSize) x)
+      (drop-long r (blocksOf n) v) (unfold blocksDropped in (shape .long indexT)) (wiped-length r (blocksOf n) v (betweenCleared r (lenOf v r) n v area) blockCount) (j / blockSize) x)
 
   -- The steps of a resize come to what the change asks of the area.
   pub resized-area : resizedArea r n v area ≡ areaAfter v (lengthened r n v) r (resized n (bytesOf v area r)) area
@@ -197,32 +191,13 @@ module _ (v : View) (shape : Shape v) (p : Placed v) (r : ℕ) (a : Live v r) (c
           (wipedTo blockCount r (blocksOf n) v (betweenCleared r (lenOf v r) n v area))
           ∙ wiped-length r (blocksOf n) v (betweenCleared r (lenOf v r) n v area) blockCount)
 
--- ---- the world
+-- ---- how it is enacted
 
-module _ (v : View) (shape : Shape v) (s : Sound v) (r : ℕ) (low : r < rowCount) (c : codeOf v r ≡ segmentCode) (n : ℕ) (fits : units n ≤ quotaOf v r) where
+module _ (v : View) (s : Sound v) (r : ℕ) (low : r < rowCount) (c : codeOf v r ≡ segmentCode) (n : ℕ) where
   live : Live v r
   live = code-live v r segmentCode low c (omega arith)
 
-  room : blocksOf n ≤ blocksOf (lenOf v r) + freeBlocks v
-  room = block-room v s r n low c fits
-
-  -- Within its quota a segment is given another length: the book stays in order,
-  pub resized-placed : Placed (lengthened r n v)
-  resized-placed = lengthened-placed v shape (placed v s) r live c n room
-
-  pub resized-shape : Shape (lengthened r n v)
-  resized-shape = lengthened-shape v shape (placed v s) r live c n
-
-  -- its world is the one with the segment's bytes cut off or filled up with zeros,
-  pub resized-world : (area : List ℕ) → worldOf (movedOn (lengthened r n v)) (areaAfter v (lengthened r n v) r (resized n (bytesOf v area r)) area)
-      ≡ apply (alter (idOf v r) (rewrite (resized n (bytesOf v area r)))) (worldOf v area)
-  resized-world area =
-      let e = resized-length n (bytesOf v area r) in
-      subst (λ (m : ℕ). worldOf (movedOn (lengthened r m v)) (areaAfter v (lengthened r m v) r (resized n (bytesOf v area r)) area)
-      ≡ apply (alter (idOf v r) (rewrite (resized n (bytesOf v area r)))) (worldOf v area)) e
-      (rewritten-world v shape (placed v s) r live c area (resized n (bytesOf v area r)) (subst (λ (m : ℕ). blocksOf m ≤ blocksOf (lenOf v r) + freeBlocks v) (sym e) room))
-
-  -- and that is how the change is enacted.
+  -- A segment is given another length.
   pub resized-view : (area : List ℕ) → enactView (alter (idOf v r) (rewrite (resized n (bytesOf v area r)))) v area ≡ movedOn (lengthened r n v)
   unfolding enactView alteredView
   resized-view area =

@@ -13,13 +13,13 @@ use Rattle.quotas.specs.Any.{both}
 use Rattle.rules.specs.Kernel.{segmentCode, blockSize, rewrite, alter, edit, put, apply}
 use Rattle.rules.specs.Laws.Bools.{bool-cases}
 use Rattle.rules.specs.Laws.Put.{put-same, put-other}
+use Rattle.tables.specs.Layout.{View, rowCount, blockCount, nextT, lenT, ownerT, indexT, onTab}
 use Rattle.rules.specs.Laws.Worlds.{world-ext}
-use Rattle.tables.specs.Layout.{View, rowCount, blockCount, onTab}
 use Rattle.book.specs.Book.{nextOf, idOf, codeOf, lenOf, ownerOf, indexOf, blocksOf, blockAt, placeOf, bytesOf, objectAt, rowOf, worldOf}
 use Rattle.book.specs.Sound.{Live, Used, Owned, timesHeld}
 use Rattle.book.specs.Placed.{Placed}
 use Rattle.book.specs.Shape.{Shape}
-use Rattle.book.specs.Enact.{areaSize, lenT, ownerT, indexT, movedOn, lengthened, byteAfter, areaAfter}
+use Rattle.book.specs.Enact.{areaSize, movedOn, lengthened, byteAfter, areaAfter}
 use Rattle.book.specs.Laws.First.{found-cases, collect-at, collect-is}
 use Rattle.book.specs.Laws.Tie.{same-row, row-is, row-none, object-bytes, object-no-bytes, bytes-length, obj-found, obj-missing, obj-at}
 use Rattle.book.specs.Laws.Room.{freeBlocks}
@@ -273,15 +273,15 @@ relong-shape r n o i v lo li s =
 module _ (v : View) (shape : Shape v) (p : Placed v) (r : ℕ) (a : Live v r) (c : codeOf v r ≡ segmentCode) where
   -- row r is n bytes long
   pub lengthened-len : (n : ℕ) → lenOf (lengthened r n v) r ≡ n
-  lengthened-len n = ap (λ (u : View). lenOf u r) (lengthened-is r n v) ∙ getD-set-same (v .len) r n 0 (omega (arith, shape .len-long, a .low))
+  lengthened-len n = ap (λ (u : View). lenOf u r) (lengthened-is r n v) ∙ getD-set-same (v .len) r n 0 (omega (arith, shape .long lenT, a .low))
 
   pub lengthened-rewritten : (n : ℕ) → blocksOf n ≤ blocksOf (lenOf v r) + freeBlocks v → Rewritten v (lengthened r n v) r n
   lengthened-rewritten n room =
       record {
         live = a;
         segment = c;
-        own = lengthened-held r n v (shape .owner-long) (shape .index-long) (held v r p a c) room;
-        others = lengthened-others r n v (shape .index-long);
+        own = lengthened-held r n v (shape .long ownerT) (shape .long indexT) (held v r p a c) room;
+        others = lengthened-others r n v (shape .long indexT);
         len-own = lengthened-len n;
         len-other = λ s ne. ap (λ (u : View). lenOf u s) (lengthened-is r n v) ∙ getD-set-other (v .len) r s n 0 ne;
       }
@@ -289,8 +289,8 @@ module _ (v : View) (shape : Shape v) (p : Placed v) (r : ℕ) (a : Live v r) (c
   pub lengthened-shape : (n : ℕ) → Shape (lengthened r n v)
   lengthened-shape n =
       subst Shape (sym (lengthened-is r n v))
-      (relong-shape r n ((lengthened r n v) .owner) ((lengthened r n v) .index) v (lengthened-owner-long r n v (shape .owner-long) (shape .index-long))
-      (lengthened-index-long r n v (shape .owner-long) (shape .index-long)) shape)
+      (relong-shape r n ((lengthened r n v) .owner) ((lengthened r n v) .index) v (lengthened-owner-long r n v (shape .long ownerT) (shape .long indexT))
+      (lengthened-index-long r n v (shape .long ownerT) (shape .long indexT)) shape)
 
   pub lengthened-placed : (n : ℕ) → blocksOf n ≤ blocksOf (lenOf v r) + freeBlocks v → Placed (lengthened r n v)
   lengthened-placed n room =
@@ -304,4 +304,4 @@ module _ (v : View) (shape : Shape v) (p : Placed v) (r : ℕ) (a : Live v r) (c
   rewritten-world area b room =
       subst (λ (u : View). worldOf (movedOn u) (areaAfter v u r b area) ≡ apply (alter (idOf v r) (rewrite b)) (worldOf v area)) (sym (lengthened-is r (length b) v))
       (relong-world r (length b) ((lengthened r (length b) v) .owner) ((lengthened r (length b) v) .index) v area b p
-      (subst (λ (u : View). Rewritten v u r (length b)) (lengthened-is r (length b) v) (lengthened-rewritten (length b) room)) refl (shape .next-long))
+      (subst (λ (u : View). Rewritten v u r (length b)) (lengthened-is r (length b) v) (lengthened-rewritten (length b) room)) refl (shape .long nextT))

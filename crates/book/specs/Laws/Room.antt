@@ -209,7 +209,8 @@ module _ (v : View) (s : Sound v) where
   blocks : Blocks (rowsOf v) rowCount blockCount (λ b. not (eqb (ownerOf v b) 0)) (λ b. ownerOf v b - 1)
   blocks =
       record {
-        owned = λ b l t. let o = s .owned b (is-used b l t) in (o .owner-low, live-test v (ownerOf v b - 1) (code-live v (ownerOf v b - 1) segmentCode (o .owner-low) (o .owner-segment) (omega arith)));
+        owned = λ b l t. let o = s .owned b (is-used b l t) in
+            (o .owner-low, live-test v (ownerOf v b - 1) (code-live v (ownerOf v b - 1) segmentCode (o .owner-low) (o .owner-segment) (omega arith)));
         exact = λ r l t. exact r (test-live v r l t) (eqb (codeOf v r) segmentCode) refl;
       }
 

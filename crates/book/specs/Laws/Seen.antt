@@ -137,7 +137,13 @@ module _ (v : View) (n : ℕ) (a : List ℕ) (s : Seen v n a) where
   seen-free e =
       record {
         seen-long = s .seen-long;
-        held = λ x l. omega (arith, s .held x l, sum-more n (λ b. when (not (eqb (ownerOf v b) 0)) (when (eqb (numberOf v b) x) 1)), when-false (not (eqb (ownerOf v n) 0)) (when (eqb (numberOf v n) x) 1) (rw (eq-eqb (ownerOf v n) 0 e)));
+        held = λ x l. omega (
+          arith,
+          s .held x l,
+          sum-more n (λ b. when (not (eqb (ownerOf v b) 0)) (when (eqb (numberOf v b) x) 1)),
+          when-false (not (eqb (ownerOf v n) 0))
+              (when (eqb (numberOf v n) x) 1) (rw (eq-eqb (ownerOf v n) 0 e)),
+        );
       }
 
   -- A used block's number is seen.
@@ -149,7 +155,15 @@ module _ (v : View) (n : ℕ) (a : List ℕ) (s : Seen v n a) where
       let at : (x : ℕ) → getD (set a k 1) x 0 ≡ getD a x 0 + when (eqb k x) 1 = λ x. ap (λ (y : ℕ). getD (set a k y) x 0) (sym one) ∙ added a k 1 x (omega (arith, s .seen-long)) in
       record {
         seen-long = length-set a k 1 ∙ s .seen-long;
-        held = λ x l. omega (arith, at x, s .held x l, sum-more n (λ b. when (not (eqb (ownerOf v b) 0)) (when (eqb (numberOf v b) x) 1)), when-true (not (eqb (ownerOf v n) 0)) (when (eqb (numberOf v n) x) 1) on, ap (λ (y : ℕ). when (eqb y x) 1) e);
+        held = λ x l. omega (
+          arith,
+          at x,
+          s .held x l,
+          sum-more n (λ b. when (not (eqb (ownerOf v b) 0)) (when (eqb (numberOf v b) x) 1)),
+          when-true (not (eqb (ownerOf v n) 0))
+              (when (eqb (numberOf v n) x) 1) on,
+          ap (λ (y : ℕ). when (eqb y x) 1) e,
+        );
       }
 
   -- A number not seen before: no block below is the same one.
@@ -165,7 +179,8 @@ module _ (v : View) (n : ℕ) (a : List ℕ) (s : Seen v n a) where
           let ei = eqb-true (indexOf v n) (indexOf v c) (and-r (eqb (ownerOf v n) (ownerOf v c)) _ q) in
           let f : ℕ → ℕ = λ b. when (not (eqb (ownerOf v b) 0)) (when (eqb (numberOf v b) k) 1) in
           let ek : numberOf v c ≡ k = sym (e ∙ ap₂ (λ (x y : ℕ). offsetOf v (x - 1) + y) eo ei) in
-          let one : f c ≡ 1 = when-true (not (eqb (ownerOf v c) 0)) _ (not-by (eqb (ownerOf v c) 0) (λ h. eqb-false (ownerOf v n) 0 t (eo ∙ eqb-true (ownerOf v c) 0 h))) ∙ when-true (eqb (numberOf v c) k) 1 (eq-eqb (numberOf v c) k ek) in
+          let one : f c ≡ 1 = when-true (not (eqb (ownerOf v c) 0)) _ (not-by (eqb (ownerOf v c) 0) (λ h. eqb-false (ownerOf v n) 0 t (eo ∙ eqb-true (ownerOf v c) 0 h)))
+          ∙ when-true (eqb (numberOf v c) k) 1 (eq-eqb (numberOf v c) k ek) in
           omega (arith, sum-term n f c l, one, s .held k low, z))))
 
   -- A number seen before: a block below is the same one.

@@ -20,7 +20,9 @@ use Rattle.book.specs.Book.{nextOf, rootOf, idOf, codeOf, maskOf, fixedO
 use Rattle.book.specs.Sound.{Live, On, Range, Ends, Root, Sound, linksTo, chargedTo}
 use Rattle.book.specs.Placed.{Placed}
 pub use Rattle.book.specs.Laws.WorldSound.{placed}
-use Rattle.book.specs.Laws.Tie.{same-row, same-link, object-label, object-cleared, object-clearance, object-fixed, object-bytes, object-mask, object-unfixed, bytes-length, world-next, world-root, live-row, obj-at, quota-at, live-at, container-at, cleared-at, linked-at, linked-is, rows-linked, use-container-at, use-segment-at, link-counted, link-none, link-once}
+use Rattle.book.specs.Laws.Tie.{same-row, same-link, object-label, object-cleared, object-clearance, object-fixed, object-bytes, object-mask, object-unfixed, bytes-length}
+use Rattle.book.specs.Laws.Tie.{world-next, world-root, live-row, obj-at, quota-at, live-at, container-at, cleared-at, linked-at, linked-is, rows-linked, use-container-at}
+use Rattle.book.specs.Laws.Tie.{use-segment-at, link-counted, link-none, link-once}
 
 module _ (v : View) (area : List ℕ) (p : Placed v) (w : W.Sound (worldOf v area)) where
   -- what is known of the object of a live row's id is known of the object at the row

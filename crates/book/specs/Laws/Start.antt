@@ -17,19 +17,19 @@ use Rattle.rules.specs.Laws.Put.{put-same, put-other}
 use Rattle.rules.specs.Laws.StartSound.{start-sound}
 use Rattle.rules.specs.Laws.Kinds.{kind-most}
 use Rattle.rules.specs.Laws.Worlds.{world-ext}
-use Rattle.tables.specs.Layout.{View, rowCount, linkCount, blockCount, zeros, empty, putT}
+use Rattle.tables.specs.Layout.{View, rowCount, linkCount, blockCount, nextT, rootT, zeros, empty, putT}
 use Rattle.book.specs.Book.{nextOf, rootOf, idOf, codeOf, markOf, ownerOf, worldOf}
 use Rattle.book.specs.Sound.{Live, On, Sound}
 use Rattle.book.specs.Placed.{Placed}
 use Rattle.book.specs.Shape.{Shape}
-use Rattle.book.specs.Enact.{nextT, rootT, relabelled, rowFilled, linkFilled, startView, startArea}
+use Rattle.book.specs.Enact.{relabelled, rowFilled, linkFilled, startView, startArea}
 use Rattle.book.specs.Make.{Handed, rootRow, threadRow, rootMade, threadMade}
 use Rattle.book.specs.Laws.Tie.{obj-none, linked-is, world-next, world-root}
 use Rattle.book.specs.Laws.SoundBy.{sound-by}
 use Rattle.book.specs.Laws.Shapes.{empty-shape, put-shape}
 use Rattle.book.specs.Laws.Handed.{container-handed, thread-handed, row-is-container, row-is-thread}
 use Rattle.book.specs.Laws.Filled.{Fresh, container-fresh, thread-fresh, filled-id-other, filled-code-other, filled-id, filled-shape}
-use Rattle.book.specs.Laws.Make.{filled-live, live-still, filled-obj, filled-linked, filled-placed, linked-obj, linked-more, linked-placed, linked-shape}
+use Rattle.book.specs.Laws.Make.{filled-live, live-still, filled-obj, filled-linked, filled-placed, linked-obj, linked-more, linked-placed}
 
 -- A list of zeros.
 pub all-zero : (l : List ℕ) → ((i : ℕ) → i < length l → getD l i 0 ≡ 0) → l ≡ replicate (length l) 0
@@ -286,10 +286,6 @@ module _ (f : ℕ) where
       linked-placed peopled peopled-shape 0 0 1 (omega arith) (peopled-mark 0) peopled-placed peopled-root peopled-thread
       (λ m a e q. a .used (peopled-mark m))
 
-  joined-shape : Shape joined
-  unfolding joined
-  joined-shape = linked-shape peopled peopled-shape 0 0 1 (omega arith) (peopled-mark 0)
-
   joined-is : joined ≡ startView f
   unfolding joined peopled rooted bare root-new thread-new
   joined-is = start-laid f
@@ -301,12 +297,9 @@ module _ (f : ℕ) where
       ∙ world-ext (worldOf joined startArea) (start f) (world-next joined startArea ∙ joined-next ∙ unfold start in refl)
       (world-root joined startArea ∙ joined-root ∙ unfold start in refl) joined-obj joined-linked
 
-  -- its positions are in order, its tables have their lengths,
+  -- its positions are in order,
   pub start-placed : Placed (startView f)
   start-placed = subst Placed joined-is joined-placed
-
-  pub start-shape : Shape (startView f)
-  start-shape = subst Shape joined-is joined-shape
 
   -- and it is sound.
   pub start-is-sound : startable f ≡ true → Sound (startView f)

@@ -13,9 +13,9 @@ use borrow.Author.Tests.{eqb-true, eqb-false, eq-eqb, ne-eqb, ltb-true, ltb-fals
 use Rattle.quotas.specs.Any.{any, both, either}
 use Rattle.rules.specs.Kernel.{blockSize}
 use Rattle.rules.specs.Laws.Bools.{bool-cases}
-use Rattle.tables.specs.Layout.{View, view, size, rowCount, linkCount, blockCount, onTab, putT}
+use Rattle.tables.specs.Layout.{View, view, size, rowCount, linkCount, blockCount, kindT, ownerT, onTab, putT}
 use Rattle.book.specs.Book.{rootOf, idOf, codeOf, markOf, toOf, ownerOf, liveLink, collect}
-use Rattle.book.specs.Enact.{kindT, ownerT, areaSize}
+use Rattle.book.specs.Enact.{areaSize}
 use Rattle.book.specs.Sound.{Used}
 use Rattle.book.specs.Cut.{Blocked, endMarked, heldRow, heldMarked, spared, rowFreed, rowsFreed, rowsSwept, orphan, blockFreed, blocksSwept, blockSwept, areaSwept}
 use Rattle.book.specs.Resize.{blockCleared}

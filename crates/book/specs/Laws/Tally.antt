@@ -75,7 +75,13 @@ module _ (v : View) (n : ℕ) (a u : List ℕ) (t : Tallied v n a u) where
         counts-long = t .counts-long;
         charges-long = t .charges-long;
         links = λ r l. omega (arith, t .links r l, sum-more n (λ l. when (liveLink v l) (when (eqb (toOf v l) r) 1)), when-false (liveLink v n) (when (eqb (toOf v n) r) 1) off);
-        charged = λ r l. omega (arith, t .charged r l, sum-more n (λ l. when (liveLink v l) (when (eqb (fromOf v l) r) (quotaOf v (toOf v l)))), when-false (liveLink v n) (when (eqb (fromOf v n) r) (quotaOf v (toOf v n))) off);
+        charged = λ r l. omega (
+          arith,
+          t .charged r l,
+          sum-more n (λ l. when (liveLink v l) (when (eqb (fromOf v l) r) (quotaOf v (toOf v l)))),
+          when-false (liveLink v n)
+              (when (eqb (fromOf v n) r) (quotaOf v (toOf v n))) off,
+        );
         links-most = λ r l. omega (arith, t .links-most r l);
         charged-most = λ r l. omega (arith, t .charged-most r l);
       }
@@ -92,9 +98,25 @@ module _ (v : View) (n : ℕ) (a u : List ℕ) (t : Tallied v n a u) where
         counts-long = length-set a o (getD a o 0 + 1) ∙ t .counts-long;
         charges-long = length-set u p (getD u p 0 + q) ∙ t .charges-long;
         links = λ r l.
-            omega (arith, at r, t .links r l, sum-more n (λ l. when (liveLink v l) (when (eqb (toOf v l) r) 1)), when-true (liveLink v n) (when (eqb (toOf v n) r) 1) live, ap (λ (x : ℕ). when (eqb x r) 1) eo);
+            omega (
+              arith,
+              at r,
+              t .links r l,
+              sum-more n (λ l. when (liveLink v l) (when (eqb (toOf v l) r) 1)),
+              when-true (liveLink v n) (when (eqb (toOf v n) r) 1) live,
+              ap
+                  (λ (x : ℕ). when (eqb x r) 1) eo,
+            );
         charged = λ r l.
-            omega (arith, ut r, t .charged r l, sum-more n (λ l. when (liveLink v l) (when (eqb (fromOf v l) r) (quotaOf v (toOf v l)))), when-true (liveLink v n) (when (eqb (fromOf v n) r) (quotaOf v (toOf v n))) live, ap₂ (λ (x y : ℕ). when (eqb x r) y) ep (eq ∙ ap (quotaOf v) eo));
+            omega (
+              arith,
+              ut r,
+              t .charged r l,
+              sum-more n (λ l. when (liveLink v l) (when (eqb (fromOf v l) r) (quotaOf v (toOf v l)))),
+              when-true (liveLink v n)
+                  (when (eqb (fromOf v n) r) (quotaOf v (toOf v n))) live,
+              ap₂ (λ (x y : ℕ). when (eqb x r) y) ep (eq ∙ ap (quotaOf v) eo),
+            );
         links-most = λ r l. omega (arith, at r, t .links-most r l, when-most (eqb o r) 1);
         charged-most = λ r l. omega (arith, ut r, t .charged-most r l, when-most (eqb p r) q);
       }

@@ -95,9 +95,3 @@ pub every-by : (n : ℕ) (t : ℕ → Bool) → ((i : ℕ) → i < n → t i ≡
 unfolding every
 every-by zero t h = refl
 every-by (suc n) t h = rw (h n (omega arith)) (every-by n t (λ i l. h i (omega arith)))
-
--- Tests that agree below n.
-pub every-cong : (n : ℕ) (s t : ℕ → Bool) → ((i : ℕ) → i < n → s i ≡ t i) → every n s ≡ every n t
-unfolding every
-every-cong zero s t h = refl
-every-cong (suc n) s t h = rw (h n (omega arith), every-cong n s t (λ i l. h i (omega arith)))

@@ -18,7 +18,8 @@ use Rattle.rules.specs.Laws.Kinds.{nothing-dead}
 use Rattle.rules.specs.Laws.Usage.{use-container, use-segment, use-cleared}
 use Rattle.tables.specs.Layout.{View, rowCount, linkCount}
 use Rattle.book.specs.declared.Found.the-variants.{At, Nothing}
-use Rattle.book.specs.Book.{nextOf, rootOf, idOf, codeOf, maskOf, fixedOf, quotaOf, lenOf, entryOf, labelOf, clearanceOf, descriptionOf, closureOf, markOf, fromOf, toOf, liveRow, liveLink, kindFrom, bytesOf, objectAt, hasId, rowOf, isLink, worldOf, ThreadOrGate, isThreadOrGate}
+use Rattle.book.specs.Book.{nextOf, rootOf, idOf, codeOf, maskOf, fixedOf, quotaOf, lenOf, entryOf, labelOf, clearanceOf, descriptionOf, closureOf, markOf, fromOf, toOf}
+use Rattle.book.specs.Book.{liveRow, liveLink, kindFrom, bytesOf, objectAt, hasId, rowOf, isLink, worldOf, ThreadOrGate, isThreadOrGate}
 use Rattle.book.specs.Sound.{Live, On, linksTo, chargedTo}
 use Rattle.book.specs.Placed.{Placed}
 use Rattle.book.specs.Laws.First.{first-only, first-low, first-hit, first-none, first-nothing, found-cases, on-at, on-nothing, collect-length}
@@ -334,7 +335,8 @@ module _ (v : View) (area : List ℕ) (p : Placed v) (below : (r : ℕ) → Live
   unfolding charged chargedTo
   charged-at c a = unfold worldOf in
       (sum-cong (nextOf v) (λ o. when (any linkCount (isLink v (idOf v c) o)) (q o)) (λ o. when (any linkCount (λ l. both (on l) (eqb (key l) o))) (q o))
-      (λ o h. ap (λ (t : Bool). when t (q o)) (any-cong linkCount (isLink v (idOf v c) o) (λ l. both (on l) (eqb (key l) o)) (λ l k. both-assoc (liveLink v l) (eqb (idOf v (fromOf v l)) (idOf v c)) (eqb (key l) o))))
+      (λ o h. ap (λ (t : Bool). when t (q o)) (any-cong linkCount (isLink v (idOf v c) o) (λ l. both (on l) (eqb (key l) o))
+      (λ l k. both-assoc (liveLink v l) (eqb (idOf v (fromOf v l)) (idOf v c)) (eqb (key l) o))))
       ∙ sum-keys (nextOf v) linkCount on key q low apart
       ∙ sum-cong linkCount (λ l. when (on l) (q (key l))) (λ l. when (liveLink v l) (when (eqb (fromOf v l) c) (quotaOf v (toOf v l)))) each)
     where
@@ -380,7 +382,8 @@ module _ (v : View) (area : List ℕ) (p : Placed v) (below : (r : ℕ) → Live
   unfolding linksTo
   links-at r a = unfold worldOf in
       sym (sum-cong (nextOf v) (λ d. when (any linkCount (isLink v d (idOf v r))) 1) (λ d. when (any linkCount (λ l. both (on l) (eqb (key l) d))) 1)
-      (λ d h. ap (λ (t : Bool). when t 1) (any-cong linkCount (isLink v d (idOf v r)) (λ l. both (on l) (eqb (key l) d)) (λ l k. both-turn (liveLink v l) (eqb (key l) d) (eqb (idOf v (toOf v l)) (idOf v r)))))
+      (λ d h. ap (λ (t : Bool). when t 1) (any-cong linkCount (isLink v d (idOf v r)) (λ l. both (on l) (eqb (key l) d))
+      (λ l k. both-turn (liveLink v l) (eqb (key l) d) (eqb (idOf v (toOf v l)) (idOf v r)))))
       ∙ sum-keys (nextOf v) linkCount on key (λ d. 1) low apart
       ∙ sum-cong linkCount (λ l. when (on l) 1) (λ l. when (liveLink v l) (when (eqb (toOf v l) r) 1)) each)
     where

@@ -16,12 +16,15 @@ use Rattle.rules.specs.Kernel.{gateCode, segmentCode, containerCode, isLive, is
 use Rattle.rules.specs.Sound as W
 use Rattle.rules.specs.Laws.Bools.{bool-cases, not-i, not-both}
 use Rattle.rules.specs.Laws.Kinds.{cleared-live}
-use Rattle.tables.specs.Layout.{View, rowCount}
+use Rattle.tables.specs.Layout.{View, rowCount, labelWordsT, clearWordsT, descriptionT, closureT}
 use Rattle.book.specs.Book.{nextOf, rootOf, idOf, codeOf, maskOf, fixedOf, labelOf, clearanceOf, fromOf, toOf, objectAt, worldOf, ThreadOrGate, isThreadOrGate}
 use Rattle.book.specs.Sound.{Live, Sound}
 use Rattle.book.specs.Placed.{Placed}
 use Rattle.book.specs.Shape.{Shape}
-use Rattle.book.specs.Laws.Tie.{code-live, same-row, object-label, object-quota, object-description, object-gate, object-segment, object-container, object-cleared, object-clearance, object-fixed, object-bytes, object-mask, object-closure, object-unfixed, object-no-bytes, object-no-mask, bytes-length, world-next, world-root, live-row, obj-at, quota-at, live-at, container-at, linked-at, linked-is, use-container-at, use-segment-at, use-cleared-at, link-counted, link-there, link-same}
+use Rattle.book.specs.Laws.Tie.{code-live, same-row, object-label, object-quota, object-description, object-gate, object-segment, object-container, object-cleared}
+use Rattle.book.specs.Laws.Tie.{object-clearance, object-fixed, object-bytes, object-mask, object-closure, object-unfixed, object-no-bytes, object-no-mask, bytes-length}
+use Rattle.book.specs.Laws.Tie.{world-next, world-root, live-row, obj-at, quota-at, live-at, container-at, linked-at, linked-is, use-container-at, use-segment-at}
+use Rattle.book.specs.Laws.Tie.{use-cleared-at, link-counted, link-there, link-same}
 
 -- What of a book's soundness its world cannot see.
 pub placed : (v : View) → Sound v → Placed v
@@ -57,10 +60,10 @@ module _ (v : View) (area : List ℕ) (shape : Shape v) (s : Sound v) (r : ℕ) 
   low-code h = leb-true (codeOf v r) gateCode (sym (object-cleared v area r (a .used)) ∙ h)
 
   label-long : length ((labelOf v r) .words) ≡ wordCount
-  label-long = part-length wordCount r (v .labelWords) (a .low) (shape .labelWords-long)
+  label-long = part-length wordCount r (v .labelWords) (a .low) (shape .long labelWordsT)
 
   clearance-long : length ((clearanceOf v r) .words) ≡ wordCount
-  clearance-long = part-length wordCount r (v .clearWords) (a .low) (shape .clearWords-long)
+  clearance-long = part-length wordCount r (v .clearWords) (a .low) (shape .long clearWordsT)
 
   in-range : W.InRange (objectAt v area r)
   in-range =
@@ -79,10 +82,10 @@ module _ (v : View) (area : List ℕ) (shape : Shape v) (s : Sound v) (r : ℕ) 
             (λ t. not-both ((objectAt v area r) .fixed) h (object-unfixed v area r (eqb-false (codeOf v r) segmentCode t)));
         label-words = ap (λ (x : Label). length (x .words)) (object-label v area r) ∙ label-long;
         clearance-words = λ h. ap (λ (x : Label). length (x .words)) (object-clearance v area r (a .used) (low-code h)) ∙ clearance-long;
-        description-size = ap (λ (b : List ℕ). length b) (object-description v area r) ∙ part-length textSize r (v .description) (a .low) (shape .description-long);
+        description-size = ap (λ (b : List ℕ). length b) (object-description v area r) ∙ part-length textSize r (v .description) (a .low) (shape .long descriptionT);
         closure-size = λ h.
             ap (λ (b : List ℕ). length b) (object-closure v area r (eqb-true (codeOf v r) gateCode (sym (object-gate v area r) ∙ h)))
-            ∙ part-length textSize r (v .closure) (a .low) (shape .closure-long);
+            ∙ part-length textSize r (v .closure) (a .low) (shape .long closureT);
       }
 
   formed : W.Formed (nextOf v) (objectAt v area r)
@@ -180,7 +183,8 @@ module _ (v : View) (area : List ℕ) (s : Sound v) where
       let (l, on, e, f) = linked-is v area d o h in
       let to = p .to-live l on in
       let from = p .from-live l on in
-      let c : codeOf v (toOf v l) ≡ containerCode = eqb-true (codeOf v (toOf v l)) containerCode (sym (container-at v area p (toOf v l) to) ∙ ap (λ (i : ℕ). isContainer (((worldOf v area) .obj i) .kind)) f ∙ k) in
+      let c : codeOf v (toOf v l) ≡ containerCode = eqb-true (codeOf v (toOf v l)) containerCode
+      (sym (container-at v area p (toOf v l) to) ∙ ap (λ (i : ℕ). isContainer (((worldOf v area) .obj i) .kind)) f ∙ k) in
       let mo : ((worldOf v area) .obj o) .mask ≡ maskOf v (toOf v l) =
       ap (λ (i : ℕ). ((worldOf v area) .obj i) .mask) (sym f) ∙ ap (λ (z : Obj). z .mask) (obj-at v area p (toOf v l) to) ∙ object-mask v area (toOf v l) c in
       let md : ((worldOf v area) .obj d) .mask ≡ maskOf v (fromOf v l) =

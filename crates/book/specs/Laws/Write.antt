@@ -10,21 +10,21 @@ use lib.Seq.{sets, length-sets, sets-eq, set-getD, getD-take, getD-drop, length-
 use lib.Dec.{leb, ltb}
 use borrow.Author.Tests.{leb-true, ltb-true, ltb-false, le-leb, lt-ltb}
 use Rattle.quotas.specs.Any.{no-both}
-use Rattle.rules.specs.Kernel.{segmentCode, blockSize, rewrite, alter, overwrite, apply}
+use Rattle.rules.specs.Kernel.{segmentCode, blockSize, rewrite, alter, overwrite}
 use Rattle.rules.specs.Laws.Bools.{bool-cases, and-l, and-r, and-i, not-i}
 use Rattle.rules.specs.Laws.Bytes.{overwrite-at, overwrite-length}
-use Rattle.tables.specs.Layout.{View, blockCount, onTab, putT}
-use Rattle.book.specs.Book.{idOf, codeOf, lenOf, ownerOf, indexOf, blocksOf, isBlock, first, blockAt, placeOf, bytesOf, rowOf, worldOf}
+use Rattle.tables.specs.Layout.{View, blockCount, lenT, ownerT, onTab, putT}
+use Rattle.book.specs.Book.{idOf, codeOf, lenOf, ownerOf, indexOf, blocksOf, isBlock, first, blockAt, placeOf, bytesOf, rowOf}
 use Rattle.book.specs.Sound.{Live}
 use Rattle.book.specs.Placed.{Placed}
 use Rattle.book.specs.Shape.{Shape}
-use Rattle.book.specs.Enact.{areaSize, lenT, movedOn, blocksAdded, blocksDropped, lengthened, byteAfter, areaAfter, alteredView, alteredArea, enactView, enactArea}
+use Rattle.book.specs.Enact.{areaSize, movedOn, blocksAdded, blocksDropped, lengthened, byteAfter, areaAfter, alteredView, alteredArea, enactView, enactArea}
 use Rattle.book.specs.Laws.First.{found-cases, first-low, on-at, on-nothing, collect-is}
 use Rattle.book.specs.Laws.Tie.{row-found, bytes-length}
 use Rattle.book.specs.Laws.Cleared.{if-true, if-false}
 use Rattle.book.specs.Laws.Blocks.{held, held-at, at-owner, at-index, place-back}
 use Rattle.book.specs.Laws.Lengthened.{dropped-same}
-use Rattle.book.specs.Laws.Rewrite.{spot, byte-mine, byte-stays, byte-else, byte-of, rewritten-world}
+use Rattle.book.specs.Laws.Rewrite.{spot, byte-mine, byte-stays, byte-else, byte-of}
 
 -- ---- part of a list overwritten
 
@@ -64,7 +64,7 @@ unfolding lengthened blocksAdded
 lengthened-same v shape p r a c =
     ap (λ (m : ℕ). putT lenT r (lenOf v r) (blocksAdded r (blocksOf (lenOf v r)) m (blocksDropped r (blocksOf (lenOf v r)) v)))
     (let z : blocksOf (lenOf v r) - blocksOf (lenOf v r) ≡ 0 = omega arith in z)
-    ∙ ap (putT lenT r (lenOf v r)) (dropped-same r (blocksOf (lenOf v r)) (blocksOf (lenOf v r)) v (held v r p a c) (omega arith) (shape .owner-long))
+    ∙ ap (putT lenT r (lenOf v r)) (dropped-same r (blocksOf (lenOf v r)) (blocksOf (lenOf v r)) v (held v r p a c) (omega arith) (shape .long ownerT))
     ∙ ap (λ (l : List ℕ). onTab lenT (λ x. l) v) (set-getD (v .len) r 0)
 
 module _ (v : View) (p : Placed v) (r : ℕ) (a : Live v r) (c : codeOf v r ≡ segmentCode) (k f : ℕ) where
@@ -157,7 +157,8 @@ module _ (v : View) (p : Placed v) (r : ℕ) (a : Live v r) (c : codeOf v r ≡ 
             → blockSize * k + f ≤ spot v j → spot v j < blockSize * k + f + length b → ⊥
         not-written j s x y =
             no-both (leb (blockSize * k + f) (spot v j) && ltb (spot v j) (blockSize * k + f + length b))
-            (and-i (leb (blockSize * k + f) (spot v j)) (ltb (spot v j) (blockSize * k + f + length b)) (le-leb (blockSize * k + f) (spot v j) x) (lt-ltb (spot v j) (blockSize * k + f + length b) y)) s
+            (and-i (leb (blockSize * k + f) (spot v j)) (ltb (spot v j) (blockSize * k + f + length b)) (le-leb (blockSize * k + f) (spot v j) x)
+            (lt-ltb (spot v j) (blockSize * k + f + length b) y)) s
 
     -- Bytes put into the area are what the change asks of it,
     pub write-same : sets area (blockSize * blockAt v r k + f) b ≡ areaAfter v v r (overwrite (blockSize * k + f) b (bytesOf v area r)) area
@@ -173,16 +174,6 @@ module _ (v : View) (p : Placed v) (r : ℕ) (a : Live v r) (c : codeOf v r ≡ 
 
       length-same : lengthened r (length (overwrite (blockSize * k + f) b (bytesOf v area r))) v ≡ v
       length-same = ap (λ (n : ℕ). lengthened r n v) written-long ∙ lengthened-same v shape p r a c
-
-      -- the world is the one with the segment's bytes overwritten,
-      pub write-world : worldOf (movedOn v) (sets area (blockSize * blockAt v r k + f) b)
-          ≡ apply (alter (idOf v r) (rewrite (overwrite (blockSize * k + f) b (bytesOf v area r)))) (worldOf v area)
-      write-world =
-          ap (worldOf (movedOn v)) write-same
-          ∙ subst (λ (u : View). worldOf (movedOn u) (areaAfter v u r (overwrite (blockSize * k + f) b (bytesOf v area r)) area)
-          ≡ apply (alter (idOf v r) (rewrite (overwrite (blockSize * k + f) b (bytesOf v area r)))) (worldOf v area)) length-same
-          (rewritten-world v shape p r a c area (overwrite (blockSize * k + f) b (bytesOf v area r))
-          (let e = ap blocksOf written-long in omega arith))
 
       -- and that is how the change is enacted.
       pub write-view : enactView (alter (idOf v r) (rewrite (overwrite (blockSize * k + f) b (bytesOf v area r)))) v area ≡ movedOn v

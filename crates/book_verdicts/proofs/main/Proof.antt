@@ -36,15 +36,4 @@ returns-2 c = search needs
 
 pub main-spec : {M : Type 1} → statement M
 main-spec =
-    tie.close
-    (tie.spec
-    Inv-loop
-    μ-loop
-    loop-holds
-    slice-aggregate-turn
-    turn-requires
-    returns
-    sub-left
-    loop-less
-    loop-again
-    returns-2)
+    tie.close (tie.spec Inv-loop μ-loop loop-holds slice-aggregate-turn turn-requires returns sub-left loop-less loop-again returns-2)

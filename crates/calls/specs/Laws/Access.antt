@@ -6,28 +6,27 @@ use mathlib.Core.List.{List}
 use lib.Dec.{eqb}
 use lib.ListN.{length}
 use Rattle.labels.specs.declared.Label.{Label}
-use Rattle.labels.specs.Core.{mayRead, mayWrite}
-use Rattle.rules.specs.Kernel.{segmentCode, Obj, Verdict, refuse, must, entry, isSegment, allHold, access}
+use Rattle.rules.specs.Kernel.{segmentCode, Obj, Verdict, refuse, must, mustHold, entry, isSegment, reading, writing, access}
 use Rattle.tables.specs.Layout.{view, rowCount}
 use Rattle.book.specs.declared.Found.the-variants.{At}
 use Rattle.book.specs.declared.find.Entry.the-variants as place
 use Rattle.book.specs.Book.{codeOf, quotaOf, lenOf, labelOf, bytesOf, rowOf, worldOf}
 use Rattle.book.specs.Laws.Tie.{row-is, obj-found, object-quota, object-bytes, bytes-length}
+use Rattle.calls.specs.Conditions.{tested}
 use Rattle.calls.specs.Access.{asked, accessOn}
 use Rattle.calls.specs.Begun.{Caller}
 use Rattle.calls.specs.Lookup.{openEntry}
 use Rattle.calls.specs.Laws.Begun.{caller-label}
-use Rattle.calls.specs.Laws.Conditions.{writing-only, reading-only}
 use Rattle.calls.specs.Laws.Entry.{no-entry, is-entry, is-segment, its-label}
 use Rattle.calls.specs.Laws.Prelude.{must-passed, must-failed}
 
 -- ---- the label condition
 
-pub asked-writing : (writes : Bool) (m l : Label) → writes ≡ true → allHold (asked writes m l) ≡ mayWrite m l
-asked-writing writes m l e = ap (λ (w : Bool). allHold (asked w m l)) e ∙ writing-only m l
+pub asked-writing : (writes : Bool) (m l : Label) → writes ≡ true → tested (asked writes m l) ≡ tested (writing m l)
+asked-writing writes m l e = ap (λ (w : Bool). tested (asked w m l)) e
 
-pub asked-reading : (writes : Bool) (m l : Label) → writes ≡ false → allHold (asked writes m l) ≡ mayRead m l
-asked-reading writes m l e = ap (λ (w : Bool). allHold (asked w m l)) e ∙ reading-only m l
+pub asked-reading : (writes : Bool) (m l : Label) → writes ≡ false → tested (asked writes m l) ≡ tested (reading m l)
+asked-reading writes m l e = ap (λ (w : Bool). tested (asked w m l)) e
 
 -- ---- the tests
 
@@ -35,7 +34,7 @@ module _ (b area : List ℕ) (c t d s : ℕ) (by : Caller b area c t) (writes : 
   tests : accessOn b area c d s writes rest
       ≡ must (entry (worldOf (view b) area) (worldOf (view b) area .obj c) d s) 5
       (must (isSegment ((worldOf (view b) area .obj s) .kind)) 6
-      (must (allHold (asked writes ((worldOf (view b) area .obj c) .label) ((worldOf (view b) area .obj s) .label))) 7 rest))
+      (mustHold (asked writes ((worldOf (view b) area .obj c) .label) ((worldOf (view b) area .obj s) .label)) rest))
   unfolding access
   tests = refl
 
@@ -46,11 +45,11 @@ module _ (b area : List ℕ) (c t d s : ℕ) (by : Caller b area c t) (writes : 
   -- one that is found: the tests 6 and 7, of the rows
   pub access-at : (k r l : ℕ) → openEntry (view b) t d s ≡ place.In k r l
       → accessOn b area c d s writes rest
-      ≡ must (eqb (codeOf (view b) r) segmentCode) 6 (must (allHold (asked writes (labelOf (view b) t) (labelOf (view b) r))) 7 rest)
+      ≡ must (eqb (codeOf (view b) r) segmentCode) 6 (mustHold (asked writes (labelOf (view b) t) (labelOf (view b) r)) rest)
   access-at k r l e =
       tests
       ∙ must-passed _ 5 _ (is-entry b area c t d s by k r l e)
-      ∙ (λ i. must (is-segment b area c t d s by k r l e i) 6 (must (allHold (asked writes (caller-label b area c t by i) (its-label b area c t d s by k r l e i))) 7 rest))
+      ∙ (λ i. must (is-segment b area c t d s by k r l e i) 6 (mustHold (asked writes (caller-label b area c t by i) (its-label b area c t d s by k r l e i)) rest))
 
 -- ---- the segment that was found
 

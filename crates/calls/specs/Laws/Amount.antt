@@ -11,14 +11,17 @@ use mir.Syntax.{w64}
 use mir.Val.{SFits, Fits}
 use borrow.Author.Tests.{ltb-true, ltb-false, lt-ltb, le-ltb, lt-leb, le-leb}
 use Rattle.labels.specs.declared.Label.{Label}
-use Rattle.labels.specs.Core.{mayRead}
-use Rattle.rules.specs.Kernel.{Obj, World, Verdict, grant, must, judge, move, entry, isSegment, isContainer, allHold, writing, flow, moveQuota, alter, requota, goodArguments, maxMove, rootQuota}
+use Rattle.rules.specs.Kernel.{Obj, World, Verdict, grant, must, mustHold, judge, move, entry, isSegment, isContainer, reading, writing, flow, moveQuota, alter, requota}
+use Rattle.rules.specs.Kernel.{goodArguments, maxMove, rootQuota}
 use Rattle.tables.specs.Layout.{View}
 use Rattle.book.specs.Units.{spareAt}
 use Rattle.calls.specs.declared.amount.Amount.{Amount}
 use Rattle.calls.specs.declared.amount.Amount.the-variants.{In, Out, Bad}
+use Rattle.calls.specs.declared.Tested.{Tested}
+use Rattle.calls.specs.declared.Tested.the-variants.{Pass}
+use Rattle.calls.specs.Conditions.{tested}
 use Rattle.calls.specs.Amount.{amountOf, overLimit, moreFor, roomFor, roomAt, quotaFor, Reckoned}
-use Rattle.calls.specs.Laws.Conditions.{none-all, reading-only}
+use Rattle.calls.specs.Laws.Conditions.{none-asked}
 
 -- ---- as the code turns it
 
@@ -59,14 +62,14 @@ without (negsuc k) h g = rw (lt-ltb k 256 (omega (arith, ltb-false 255 k g))) (a
 -- ---- as the code goes by it
 
 module _ (u : Amount) (t o : Label) where
-  pub more-in : (m : ℕ) → u ≡ In m → true ≡ allHold (moreFor u t o)
-  more-in m e = sym (ap (λ a. allHold (moreFor a t o)) e ∙ none-all)
+  pub more-in : (m : ℕ) → u ≡ In m → Pass ≡ tested (moreFor u t o)
+  more-in m e = none-asked ∙ sym (ap (λ a. tested (moreFor a t o)) e)
 
-  pub more-out : (m : ℕ) (r : Bool) → u ≡ Out m → r ≡ mayRead t o → r ≡ allHold (moreFor u t o)
-  more-out m r e f = f ∙ sym (ap (λ a. allHold (moreFor a t o)) e ∙ reading-only t o)
+  pub more-out : (m : ℕ) (r : Tested) → u ≡ Out m → r ≡ tested (reading t o) → r ≡ tested (moreFor u t o)
+  more-out m r e f = f ∙ sym (ap (λ a. tested (moreFor a t o)) e)
 
-  pub more-bad : u ≡ Bad → true ≡ allHold (moreFor u t o)
-  more-bad e = sym (ap (λ a. allHold (moreFor a t o)) e ∙ none-all)
+  pub more-bad : u ≡ Bad → Pass ≡ tested (moreFor u t o)
+  more-bad e = none-asked ∙ sym (ap (λ a. tested (moreFor a t o)) e)
 
 module _ (u : Amount) (v : View) (k r : ℕ) where
   pub room-in : (m s : ℕ) → u ≡ In m → s ≡ spareAt v k → leb m s ≡ roomAt u v k r
@@ -135,7 +138,7 @@ abbrev pub moving : World → Obj → ℕ → ℕ → Amount → Verdict
 moving w t d o u =
     must (entry w t d o) 5
     (must (isSegment ((w .obj o) .kind) || isContainer ((w .obj o) .kind)) 6
-    (must (allHold (writing (t .label) ((w .obj d) .label) ++ (flow (t .label) ((w .obj o) .label) ∷ flow ((w .obj o) .label) (t .clearance) ∷ moreFor u (t .label) ((w .obj o) .label)))) 7
+    (mustHold (writing (t .label) ((w .obj d) .label) ++ (flow (t .label) ((w .obj o) .label) ∷ flow ((w .obj o) .label) (t .clearance) ∷ moreFor u (t .label) ((w .obj o) .label)))
     (must (not ((w .obj o) .fixed)) 9
     (must (roomFor u w d o) 13
     (grant 0 [] (alter o (requota (quotaFor u ((w .obj o) .quota)))))))))

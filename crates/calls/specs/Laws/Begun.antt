@@ -1,37 +1,26 @@
 -- From what a call asks first to the verdict.
-use Prim.Native.Nat.{ℕ, _≤_, _<_}
+use Prim.Native.Nat.{ℕ, _<_}
 use native.Mathlib.Omega.{arith}
 use mathlib.Core.Bool.{true, false}
-use mathlib.Core.Logic.{_⊎_, ⊎-elim}
-use mathlib.Core.Path.{_≡_, sym, ap, _∙_}
+use mathlib.Core.Path.{_≡_, ap, _∙_}
 use mathlib.Core.List.{List}
-use Rattle.rules.specs.Kernel.{threadCode, Obj, refuse, Call, judge, isThread, goodArguments, lastNumber}
+use Rattle.rules.specs.Kernel.{threadCode, Obj, refuse, Call, judge, isThread, goodArguments}
 use Rattle.tables.specs.Layout.{view, rowCount}
 use Rattle.book.specs.declared.Found.the-variants.{Nothing}
 use Rattle.book.specs.Book.{nextOf, codeOf, labelOf, clearanceOf, objectAt, worldOf}
 use Rattle.book.specs.Find.{threadRow}
 use Rattle.book.specs.Placed.{Placed}
 use Rattle.book.specs.Sound.{Sound}
-use Rattle.book.specs.Test.{areasB}
 use Rattle.book.specs.Laws.Find.{kind-is, row-low, thread-found, thread-none}
 use Rattle.book.specs.Laws.Tie.{object-label, object-clearance}
 use Rattle.book.specs.Laws.WorldSound.{placed}
 use Rattle.calls.specs.Outcome.{verdictOn, Ready}
 use Rattle.calls.specs.Begun.{Caller}
-use Rattle.calls.specs.Laws.Prelude.{book-sound, verdict-one, verdict-two, verdict-three, verdict-four, verdict-judged}
+use Rattle.calls.specs.Laws.Prelude.{book-sound, verdict-three, verdict-four, verdict-judged}
 
-module _ (b area : List ℕ) (c : ℕ) (x : Call) where
-  -- stopped: the verdict is that refusal, and it is 1 or 2
-  pub stopped-verdict : (k : ℕ) → ((k ≡ 1) × (areasB b area ≡ false)) ⊎ ((k ≡ 2) × (areasB b area ≡ true) × (lastNumber < nextOf (view b)))
-      → (verdictOn b area c x ≡ refuse k) × (k ≤ 2)
-  stopped-verdict k =
-      ⊎-elim {C = (verdictOn b area c x ≡ refuse k) × (k ≤ 2)}
-      (λ p. (verdict-one b area c x (p .1) ∙ ap refuse (sym (p .0)), omega (arith, p .0)))
-      (λ p. (verdict-two b area c x (p .1) (p .2) ∙ ap refuse (sym (p .0)), omega (arith, p .0)))
-
-  -- nobody: 3
-  pub nobody-verdict : (ready : Ready b area) → threadRow (view b) c ≡ Nothing → verdictOn b area c x ≡ refuse 3
-  nobody-verdict ready e = verdict-three b area c x ready (thread-none (view b) area c e)
+-- nobody: 3
+pub nobody-verdict : (b area : List ℕ) (c : ℕ) (x : Call) (ready : Ready b area) → threadRow (view b) c ≡ Nothing → verdictOn b area c x ≡ refuse 3
+nobody-verdict b area c x ready e = verdict-three b area c x ready (thread-none (view b) area c e)
 
 -- what is known of the caller
 module _ (b area : List ℕ) (c t : ℕ) (by : Caller b area c t) where

@@ -78,7 +78,8 @@ module _ (b area : List ℕ) (c t : ℕ) (by : Caller b area c t) where
   judged =
       caller-judged b area c t by createCategory refl
       ∙ (λ i. must (hasRoom (caller-label b area c t by i) && clearsB (caller-clearance b area c t by i)) 12
-      (grant (world-next (view b) area i) [] (alter c (relabel (withPair (world-next (view b) area i) star (caller-label b area c t by i)) (clearedAt (world-next (view b) area i) (caller-clearance b area c t by i))))))
+      (grant (world-next (view b) area i) [] (alter c (relabel (withPair (world-next (view b) area i) star (caller-label b area c t by i))
+      (clearedAt (world-next (view b) area i) (caller-clearance b area c t by i))))))
 
   -- no room in the label: 12
   pub label-twelve : hasRoom (labelOf (view b) t) ≡ false → verdictOn b area c createCategory ≡ refuse 12
@@ -93,7 +94,7 @@ module _ (b area : List ℕ) (c t : ℕ) (by : Caller b area c t) where
     clearance-twelve e = judged ∙ must-failed _ 12 _ (both-asked ∙ e)
 
     -- granted
-    pub to-own : clearsB (clearanceOf (view b) t) ≡ true → ToOwn b area c t 0 0
+    pub to-own : clearsB (clearanceOf (view b) t) ≡ true → ToOwn b area c t 0
     to-own e =
         record {
           room = room;

@@ -1,7 +1,7 @@
 -- Call 4: the verdict at each way out, and what the making leaves.
 use Prim.Native.Nat.{ℕ, _-_, _<_, _≤_}
 use native.Mathlib.Omega.{arith}
-use mathlib.Core.Bool.{Bool, true, false, _&&_}
+use mathlib.Core.Bool.{true, false, _&&_}
 use mathlib.Core.Path.{_≡_, refl, sym, ap, ap₂, subst, _∙_}
 use mathlib.Core.List.{List, [], _∷_}
 use lib.Bits.{bitOr, or-lt}
@@ -13,7 +13,7 @@ use Rattle.labels.specs.Core.{labelSize}
 use Rattle.labels.specs.Core as core
 use Rattle.labels.specs.Core.Bytes.{labelOf-length}
 use Rattle.labels.specs.Core.Formed.{and-l, and-r}
-use Rattle.rules.specs.Kernel.{containerCode, maskWidth, kindCode, allHold, flow, judge, goodArguments, goodLabel}
+use Rattle.rules.specs.Kernel.{containerCode, maskWidth, kindCode, flow, judge, goodArguments, goodLabel}
 use Rattle.rules.specs.Kernel.{goodText, maxMask, maxQuota, textSize, orDefault, containerDefault, containerOf, createContainer}
 use Rattle.tables.specs.Layout.{view}
 use Rattle.book.specs.declared.Found.the-variants.{At, Nothing}
@@ -23,8 +23,11 @@ use Rattle.book.specs.Find.{containerRow}
 use Rattle.book.specs.Make.{objectOf, Handed}
 use Rattle.book.specs.Laws.Find.{kind-row}
 use Rattle.book.specs.Laws.Handed.{container-handed, row-is-container}
+use Rattle.calls.specs.declared.Refusal.the-variants.{BadArgument, NoEntry}
 use Rattle.calls.specs.declared.Judged.{Judged}
 use Rattle.calls.specs.declared.Judged.the-variants.{No}
+use Rattle.calls.specs.declared.Tested.{Tested}
+use Rattle.calls.specs.Conditions.{tested}
 use Rattle.calls.specs.Outcome.{Ready}
 use Rattle.calls.specs.Begun.{Caller}
 use Rattle.calls.specs.Lookup.{openContainer}
@@ -32,16 +35,17 @@ use Rattle.calls.specs.Creating.{plainConditions, admitted}
 use Rattle.calls.specs.CreateContainer.{newContainer, containerRowOf, ContainerJudged}
 use Rattle.calls.specs.Laws.Arguments.{good-long, good-default, good-text-long}
 use Rattle.calls.specs.Laws.Begun.{caller-four, caller-label, caller-clearance}
+use Rattle.calls.specs.Laws.Leave.{told}
 use Rattle.calls.specs.Laws.Creating.{create-five, create-judged, default-most, mask-at}
 use Rattle.calls.specs.Laws.Prelude.{book-sound}
 
 module _ (b area l s : List ℕ) (c t d m q : ℕ) (by : Caller b area c t) where
   -- bad arguments: 4
   pub container-four : (n : ℕ) → n ≡ nextOf (view b) → (goodLabel n false l && (goodText s && (leb m maxMask && leb q maxQuota))) ≡ false
-      → ContainerJudged b area c d l s m q (No 4)
+      → ContainerJudged b area c d l s m q (No BadArgument)
   unfolding goodArguments
   container-four n e bad =
-      (caller-four b area c t by (createContainer d l s m q) (subst (λ (k : ℕ). goodArguments k (createContainer d l s m q) ≡ false) e bad), omega arith, by .ready)
+      told (caller-four b area c t by (createContainer d l s m q) (subst (λ (k : ℕ). goodArguments k (createContainer d l s m q) ≡ false) e bad)) (by .ready)
 
   module _ (n : ℕ) (g : n ≡ nextOf (view b)) (good : (goodLabel n false l && (goodText s && (leb m maxMask && leb q maxQuota))) ≡ true) where
     arguments : goodArguments (nextOf (view b)) (createContainer d l s m q) ≡ true
@@ -49,7 +53,7 @@ module _ (b area l s : List ℕ) (c t d m q : ℕ) (by : Caller b area c t) wher
     arguments = subst (λ (k : ℕ). goodArguments k (createContainer d l s m q) ≡ true) g good
 
     -- no container that is open: 5
-    pub container-five : openContainer (view b) t d ≡ Nothing → ContainerJudged b area c d l s m q (No 5)
+    pub container-five : openContainer (view b) t d ≡ Nothing → ContainerJudged b area c d l s m q (No NoEntry)
     unfolding judge
     container-five =
         create-five b area c t by (createContainer d l s m q) d (newContainer (worldOf (view b) area) d l s m q)
@@ -57,7 +61,7 @@ module _ (b area l s : List ℕ) (c t d m q : ℕ) (by : Caller b area c t) wher
 
     -- one that is, at row `at`: what is shared decides
     pub container-judged : (at : ℕ) → openContainer (view b) t d ≡ At at
-        → (allowed : Bool) → allowed ≡ allHold (plainConditions (labelOf (view b) t) (clearanceOf (view b) t) (core.labelOf l))
+        → (allowed : Tested) → allowed ≡ tested (plainConditions (labelOf (view b) t) (clearanceOf (view b) t) (core.labelOf l))
         → (units : ℕ) → units ≡ orDefault q containerDefault → (r : Judged) → r ≡ admitted (view b) t at (containerCode - 1) units allowed → ContainerJudged b area c d l s m q r
     unfolding judge containerOf kindCode
     container-judged at o allowed e units f r h =
@@ -66,7 +70,7 @@ module _ (b area l s : List ℕ) (c t d m q : ℕ) (by : Caller b area c t) wher
         (record {
           bit = refl;
           units = sym f;
-          conditions = ap₂ (λ (u k : Label). allHold (plainConditions u k (core.labelOf l))) (caller-label b area c t by) (caller-clearance b area c t by) ∙ sym e;
+          conditions = ap₂ (λ (u k : Label). tested (plainConditions u k (core.labelOf l))) (caller-label b area c t by) (caller-clearance b area c t by) ∙ sym e;
         })
         r h
 

@@ -1,16 +1,14 @@
 -- Calls 4 to 7: what they share, and the verdict by it.
 use Prim.Native.Nat.{ℕ, _/_, _%_, _^_, _≤_}
-use native.Mathlib.Omega.{arith}
 use mathlib.Core.Bool.{Bool, true, false, not, cond, _&&_}
 use mathlib.Core.Path.{_≡_, refl, sym, ap, ap₂, subst, _∙_}
 use mathlib.Core.List.{List, [], _∷_, _++_}
 use lib.ListN.{length}
 use lib.Dec.{eqb, leb}
 use borrow.Author.Tests.{eq-eqb, ne-eqb}
-use Rattle.labels.specs.declared.Label.{Label}
-use Rattle.labels.specs.Core.{labelSize, flows, mayWrite}
+use Rattle.labels.specs.Core.{labelSize}
 use Rattle.labels.specs.Core.Formed.{and-l, and-r}
-use Rattle.rules.specs.Kernel.{containerCode, Obj, grant, must, make, opens, allHold, writing, flow, forbids, fits, Condition, Call, judge, goodArguments, goodLabel, create, orDefault}
+use Rattle.rules.specs.Kernel.{containerCode, Obj, grant, must, mustHold, make, opens, writing, flow, forbids, fits, Condition, Call, judge, goodArguments, goodLabel, create, orDefault}
 use Rattle.tables.specs.Layout.{view}
 use Rattle.book.specs.declared.Found.the-variants.{At, Nothing}
 use Rattle.book.specs.Book.{nextOf, maskOf, labelOf, worldOf}
@@ -23,19 +21,20 @@ use Rattle.book.specs.Laws.Find.{kind-is, kind-row, container-low, container-fo
 use Rattle.book.specs.Laws.Places.{create-enacts}
 use Rattle.book.specs.Laws.Tie.{object-mask, world-next}
 use Rattle.calls.specs.declared.Answer.the-variants.{Granted}
+use Rattle.calls.specs.declared.Refusal.the-variants.{NoEntry, MaskForbids, NoSpare}
+use Rattle.calls.specs.declared.Tested.{Tested}
 use Rattle.calls.specs.declared.Judged.{Judged}
 use Rattle.calls.specs.declared.Judged.the-variants.{No}
 use Rattle.calls.specs.Outcome.{verdictOn, Means, Ready, Done}
 use Rattle.calls.specs.Begun.{Caller}
 use Rattle.calls.specs.Lookup.{openContainer}
-use Rattle.calls.specs.Creating.{plainConditions, clearedConditions, Asked, admitted, ToMake}
+use Rattle.calls.specs.Creating.{Asked, admitted, ToMake}
 use Rattle.calls.specs.Laws.Arguments.{good-long}
 use Rattle.calls.specs.Laws.Begun.{caller-judged, caller-label}
-use Rattle.calls.specs.Laws.Conditions.{writing-all}
 use Rattle.calls.specs.Laws.Lookup.{not-open, is-open, holder-row, holder-label, holder-fits}
 use Rattle.calls.specs.Laws.Prelude.{must-passed, must-failed, book-long, done-granted}
-use Rattle.calls.specs.Laws.Tested.{means-tested, must-both}
-use Rattle.calls.specs.Laws.Writing.{flow-fails, flow-holds, flow-last}
+use Rattle.calls.specs.Laws.Leave.{told}
+use Rattle.calls.specs.Laws.Tested.{means-tested, means-both}
 
 -- ---- arguments as the code tests them
 
@@ -70,29 +69,6 @@ module _ (q d : ℕ) where
       go true = f
       go false = e
 
--- ---- the label conditions as the code tests them
-
-module _ (m k l : Label) where
-  -- the thread does not flow to the label
-  pub plain-fails : flows m l ≡ false → false ≡ allHold (plainConditions m k l)
-  plain-fails e = sym (flow-fails m l (flow l k ∷ []) e)
-
-  -- it does, and the label decides
-  pub plain-rest : flows m l ≡ true → flows l k ≡ allHold (plainConditions m k l)
-  plain-rest e = sym (flow-holds m l (flow l k ∷ []) e ∙ flow-last l k)
-
-  module _ (n : Label) where
-    pub cleared-fails : flows m l ≡ false → false ≡ allHold (clearedConditions m k l n)
-    cleared-fails e = sym (flow-fails m l (flow l n ∷ flow n k ∷ []) e)
-
-    -- the label does not flow to its clearance
-    pub cleared-next : flows m l ≡ true → flows l n ≡ false → false ≡ allHold (clearedConditions m k l n)
-    cleared-next e f = sym (flow-holds m l (flow l n ∷ flow n k ∷ []) e ∙ flow-fails l n (flow n k ∷ []) f)
-
-    -- both do, and the clearance decides
-    pub cleared-rest : flows m l ≡ true → flows l n ≡ true → flows n k ≡ allHold (clearedConditions m k l n)
-    cleared-rest e f = sym (flow-holds m l (flow l n ∷ flow n k ∷ []) e ∙ flow-holds l n (flow n k ∷ []) f ∙ flow-last n k)
-
 -- ---- the verdict
 
 -- the mask of the container is its row's
@@ -104,7 +80,7 @@ module _ (b area : List ℕ) (c t : ℕ) (by : Caller b area c t) (call : Call) 
     (made : judge (worldOf (view b) area) (worldOf (view b) area .obj c) c call ≡ make (worldOf (view b) area) (worldOf (view b) area .obj c) d x more) where
   chain : verdictOn b area c call
       ≡ must (opens (worldOf (view b) area) (worldOf (view b) area .obj c) d) 5
-      (must (allHold (writing ((worldOf (view b) area .obj c) .label) ((worldOf (view b) area .obj d) .label) ++ (flow ((worldOf (view b) area .obj c) .label) (x .label) ∷ more))) 7
+      (mustHold (writing ((worldOf (view b) area .obj c) .label) ((worldOf (view b) area .obj d) .label) ++ (flow ((worldOf (view b) area .obj c) .label) (x .label) ∷ more))
       (must (not (forbids ((worldOf (view b) area .obj d) .mask) (x .kind))) 8
       (must (fits (worldOf (view b) area) d (x .quota)) 13
       (grant (worldOf (view b) area .next) [] (create d x)))))
@@ -112,17 +88,11 @@ module _ (b area : List ℕ) (c t : ℕ) (by : Caller b area c t) (call : Call) 
   chain = caller-judged b area c t by call good ∙ made
 
   -- no container that is open: 5
-  pub create-five : openContainer (view b) t d ≡ Nothing → Means b area (verdictOn b area c call) (ToMake b area c call d x) (No 5)
-  create-five e = (chain ∙ must-failed _ 5 _ (not-open b area c t d by e), omega arith, by .ready)
+  pub create-five : openContainer (view b) t d ≡ Nothing → Means b area (verdictOn b area c call) (ToMake b area c call d x) (No NoEntry)
+  create-five e = told (chain ∙ must-failed _ 5 _ (not-open b area c t d by e)) (by .ready)
 
-  module _ (k : ℕ) (e : openContainer (view b) t d ≡ At k) (place quota : ℕ) (allowed : Bool)
+  module _ (k : ℕ) (e : openContainer (view b) t d ≡ At k) (place quota : ℕ) (allowed : Tested)
       (a : Asked (worldOf (view b) area .obj c) x more place quota allowed) where
-    suited : allHold (writing ((worldOf (view b) area .obj c) .label) ((worldOf (view b) area .obj d) .label) ++ (flow ((worldOf (view b) area .obj c) .label) (x .label) ∷ more))
-        ≡ cond (mayWrite (labelOf (view b) t) (labelOf (view b) k)) allowed false
-    suited =
-        writing-all _ _ _
-        ∙ ap₂ (λ (u w : Bool). cond u w false) (ap₂ mayWrite (caller-label b area c t by) (holder-label b area c t d by k e)) (a .conditions)
-
     forbidden : forbids ((worldOf (view b) area .obj d) .mask) (x .kind) ≡ eqb (maskOf (view b) k / 2 ^ place % 2) 1
     unfolding forbids
     forbidden = ap₂ (λ (m n : ℕ). eqb (m / 2 ^ n % 2) 1) (mask-at b area d k (holder-row b area c t d by k e)) (a .bit)
@@ -132,16 +102,15 @@ module _ (b area : List ℕ) (c t : ℕ) (by : Caller b area c t) (call : Call) 
 
     -- the tests from 7 on, of the rows
     from-seven : verdictOn b area c call
-        ≡ must (mayWrite (labelOf (view b) t) (labelOf (view b) k)) 7
-        (must allowed 7
+        ≡ mustHold (writing (labelOf (view b) t) (labelOf (view b) k) ++ (flow ((worldOf (view b) area .obj c) .label) (x .label) ∷ more))
         (must (not (eqb (maskOf (view b) k / 2 ^ place % 2) 1)) 8
         (must (leb quota (spareAt (view b) k)) 13
-        (grant (nextOf (view b)) [] (create d x)))))
+        (grant (nextOf (view b)) [] (create d x))))
     from-seven =
         chain
         ∙ must-passed _ 5 _ (is-open b area c t d by k e)
-        ∙ (λ i. must (suited i) 7 (must (not (forbidden i)) 8 (must (fitting i) 13 (grant (world-next (view b) area i) [] (create d x)))))
-        ∙ must-both (mayWrite (labelOf (view b) t) (labelOf (view b) k)) allowed 7 _
+        ∙ (λ i. mustHold (writing (caller-label b area c t by i) (holder-label b area c t d by k e i) ++ (flow ((worldOf (view b) area .obj c) .label) (x .label) ∷ more))
+        (must (not (forbidden i)) 8 (must (fitting i) 13 (grant (world-next (view b) area i) [] (create d x)))))
 
     -- what is answered of them is what the call comes to
     pub create-judged : (r : Judged) → r ≡ admitted (view b) t k place quota allowed → Means b area (verdictOn b area c call) (ToMake b area c call d x) r
@@ -149,15 +118,14 @@ module _ (b area : List ℕ) (c t : ℕ) (by : Caller b area c t) (call : Call) 
         let go = ToMake b area c call d x in
         let v = verdictOn b area c call in
         subst (Means b area v go) (sym f)
-        (means-tested b area (by .ready) go v _ 7 _ _ (omega arith) from-seven
-        (λ g1 e1. means-tested b area (by .ready) go v _ 7 _ _ (omega arith) e1
-        (λ g2 e2. means-tested b area (by .ready) go v _ 8 _ _ (omega arith) e2
-        (λ g3 e3. means-tested b area (by .ready) go v _ 13 _ _ (omega arith) e3
-        (λ g4 e4. (by .ready, record { good = good; granted = e4; container = holder-row b area c t d by k e }))))))
+        (means-both b area (by .ready) go v (writing (labelOf (view b) t) (labelOf (view b) k)) _ allowed (a .conditions) _ _ from-seven
+        (λ e2. means-tested b area (by .ready) go v _ MaskForbids 8 _ _ refl e2
+        (λ g3 e3. means-tested b area (by .ready) go v _ NoSpare 13 _ _ refl e3
+        (λ g4 e4. (by .ready, record { good = good; granted = e4; container = holder-row b area c t d by k e })))))
 
 -- ---- the making
 
-module _ (b area : List ℕ) (c : ℕ) (call : Call) (d : ℕ) (x : Obj) (i j l : ℕ) (ready : Ready b area) (go : ToMake b area c call d x i j l) where
+module _ (b area : List ℕ) (c : ℕ) (call : Call) (d : ℕ) (x : Obj) (i j : ℕ) (ready : Ready b area) (go : ToMake b area c call d x i j) where
   -- what the book asks of a create
   pub creating : (n : NewRow) (s y : List ℕ) → Handed n s y → Creating b i n s y
   creating n s y h =

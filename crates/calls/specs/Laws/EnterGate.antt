@@ -3,27 +3,29 @@ use Prim.Native.Nat.{ℕ}
 use native.Mathlib.Omega.{arith}
 use mathlib.Core.Bool.{Bool, true, false, _&&_}
 use mathlib.Core.Path.{_≡_, sym, ap, ap₂, _∙_}
-use mathlib.Core.List.{List, [], _∷_}
+use mathlib.Core.List.{List}
 use lib.Dec.{eqb}
 use borrow.Author.Tests.{eq-eqb, ne-eqb, eqb-true}
 use Rattle.labels.specs.declared.Label.{Label}
-use Rattle.labels.specs.declared.Rule.the-variants.{FloorFlows, FlowsJoin}
-use Rattle.labels.specs.Core.{compareB, flows}
 use Rattle.labels.specs.Core as label
 use Rattle.labels.specs.Core.Formed.{and-l, and-r}
-use Rattle.rules.specs.Kernel.{gateCode, World, Obj, Condition, refuse, grant, must, judge, entry, isGate}
-use Rattle.rules.specs.Kernel.{allHold, flow, floorFlow, flowJoin, enterGate, alter, relabel, goodLabel, goodArguments, textSize}
+use Rattle.rules.specs.Kernel.{gateCode, World, Obj, Condition, Verdict, refuse, grant, must, mustHold, judge, entry, isGate}
+use Rattle.rules.specs.Kernel.{enterGate, alter, relabel, goodLabel, goodArguments, textSize}
 use Rattle.tables.specs.Layout.{view}
 use Rattle.book.specs.declared.find.Entry.the-variants as place
 use Rattle.book.specs.Book.{nextOf, codeOf, labelOf, clearanceOf, worldOf}
 use Rattle.book.specs.Laws.Tie.{object-clearance, object-gate, object-entry, object-closure}
-use Rattle.calls.specs.Outcome.{verdictOn}
+use Rattle.calls.specs.declared.Refusal.{Refusal}
+use Rattle.calls.specs.declared.Tested.{Tested}
+use Rattle.calls.specs.declared.Tested.the-variants.{Pass, Fail}
+use Rattle.calls.specs.Outcome.{verdictOn, Told}
+use Rattle.calls.specs.Conditions.{tested}
 use Rattle.calls.specs.Begun.{Caller}
 use Rattle.calls.specs.Lookup.{openEntry}
 use Rattle.calls.specs.EnterGate.{goodGate, gateConditions, asksAt, ToEnter}
-use Rattle.calls.specs.Laws.AllHold.{all-failed, all-passed, all-last, flow-holds, floor-flow-holds, flow-join-holds}
 use Rattle.calls.specs.Laws.Arguments.{good-long, good-default}
 use Rattle.calls.specs.Laws.Begun.{caller-four, caller-judged, caller-label, caller-clearance, caller-low}
+use Rattle.calls.specs.Laws.Conditions.{pass-on, fail-told}
 use Rattle.calls.specs.Laws.Entry.{no-entry, is-entry, object-below, object-is, its-label}
 use Rattle.calls.specs.Laws.Prelude.{must-passed, must-failed}
 use Rattle.calls.specs.Laws.Relabel.{caller-row}
@@ -79,44 +81,15 @@ module _ (next : ℕ) (lr cr lv : List ℕ) (n : ℕ) where
   pub gate-against : (m : ℕ) (r : Bool) → m ≡ next → r ≡ goodGate m lr cr lv n → goodGate next lr cr lv n ≡ r
   gate-against m r e t = sym (t ∙ ap (λ (k : ℕ). goodGate k lr cr lv n) e)
 
--- ---- the conditions, in their order
+-- ---- the conditions
 
 module _ (mine cleared gate guard taken limit shown : Label) where
-  pub guard-fails : flows mine guard ≡ false → allHold (gateConditions mine cleared gate guard taken limit shown) ≡ false
-  guard-fails e = all-failed _ _ (flow-holds mine guard ∙ e)
-
-  module _ (a : flows mine guard ≡ true) where
-    after-guard : allHold (gateConditions mine cleared gate guard taken limit shown)
-        ≡ allHold (flow mine shown ∷ floorFlow mine gate taken ∷ flow taken limit ∷ flowJoin limit cleared guard ∷ [])
-    after-guard = all-passed _ _ (flow-holds mine guard ∙ a)
-
-    pub verify-fails : flows mine shown ≡ false → allHold (gateConditions mine cleared gate guard taken limit shown) ≡ false
-    verify-fails e = after-guard ∙ all-failed _ _ (flow-holds mine shown ∙ e)
-
-    module _ (v : flows mine shown ≡ true) where
-      after-verify : allHold (gateConditions mine cleared gate guard taken limit shown)
-          ≡ allHold (floorFlow mine gate taken ∷ flow taken limit ∷ flowJoin limit cleared guard ∷ [])
-      after-verify = after-guard ∙ all-passed _ _ (flow-holds mine shown ∙ v)
-
-      pub floor-fails : compareB FloorFlows mine gate taken ≡ false → allHold (gateConditions mine cleared gate guard taken limit shown) ≡ false
-      floor-fails e = after-verify ∙ all-failed _ _ (floor-flow-holds mine gate taken ∙ e)
-
-      module _ (f : compareB FloorFlows mine gate taken ≡ true) where
-        after-floor : allHold (gateConditions mine cleared gate guard taken limit shown) ≡ allHold (flow taken limit ∷ flowJoin limit cleared guard ∷ [])
-        after-floor = after-verify ∙ all-passed _ _ (floor-flow-holds mine gate taken ∙ f)
-
-        pub limit-fails : flows taken limit ≡ false → allHold (gateConditions mine cleared gate guard taken limit shown) ≡ false
-        limit-fails e = after-floor ∙ all-failed _ _ (flow-holds taken limit ∙ e)
-
-        pub join-rests : flows taken limit ≡ true → allHold (gateConditions mine cleared gate guard taken limit shown) ≡ compareB FlowsJoin limit cleared guard
-        join-rests e = after-floor ∙ (all-passed _ _ (flow-holds taken limit ∙ e) ∙ (all-last _ ∙ flow-join-holds limit cleared guard))
-
   -- asked of these labels by other names
   pub gate-asked : (mine₂ cleared₂ gate₂ guard₂ taken₂ limit₂ shown₂ : Label) → mine ≡ mine₂ → cleared ≡ cleared₂ → gate ≡ gate₂ → guard ≡ guard₂
-      → taken ≡ taken₂ → limit ≡ limit₂ → shown ≡ shown₂ → (r : Bool) → r ≡ allHold (gateConditions mine cleared gate guard taken limit shown)
-      → r ≡ allHold (gateConditions mine₂ cleared₂ gate₂ guard₂ taken₂ limit₂ shown₂)
+      → taken ≡ taken₂ → limit ≡ limit₂ → shown ≡ shown₂ → (r : Tested) → r ≡ tested (gateConditions mine cleared gate guard taken limit shown)
+      → r ≡ tested (gateConditions mine₂ cleared₂ gate₂ guard₂ taken₂ limit₂ shown₂)
   gate-asked mine₂ cleared₂ gate₂ guard₂ taken₂ limit₂ shown₂ m k g u t l s r e =
-      e ∙ (λ i. allHold (gateConditions (m i) (k i) (g i) (u i) (t i) (l i) (s i)))
+      e ∙ (λ i. tested (gateConditions (m i) (k i) (g i) (u i) (t i) (l i) (s i)))
 
 -- ---- the verdict
 
@@ -135,7 +108,7 @@ module _ (b area : List ℕ) (c t d g : ℕ) (lr cr lv : List ℕ) (n : ℕ) (by
     judged : verdictOn b area c (enterGate d g lr cr lv n)
         ≡ must (entry (worldOf (view b) area) (worldOf (view b) area .obj c) d g) 5
         (must (isGate ((worldOf (view b) area .obj g) .kind)) 6
-        (must (allHold (asks (worldOf (view b) area) (worldOf (view b) area .obj c) g lr cr lv)) 7
+        (mustHold (asks (worldOf (view b) area) (worldOf (view b) area .obj c) g lr cr lv)
         (grant ((worldOf (view b) area .obj g) .entry) ((worldOf (view b) area .obj g) .closure) (alter c (relabel (label.labelOf lr) (label.labelOf cr))))))
     unfolding judge goodArguments goodGate
     judged = caller-judged b area c t by (enterGate d g lr cr lv n) good
@@ -156,32 +129,32 @@ module _ (b area : List ℕ) (c t d g : ℕ) (lr cr lv : List ℕ) (n : ℕ) (by
         its-clearance : (worldOf (view b) area .obj g) .clearance ≡ clearanceOf (view b) r
         its-clearance = ap (λ (x : Obj). x .clearance) (object-is b area c t d g by k r l e) ∙ object-clearance (view b) area r (λ z. omega (arith, code)) (omega (arith, code))
 
-        asked : allHold (asks (worldOf (view b) area) (worldOf (view b) area .obj c) g lr cr lv)
-            ≡ allHold (asksAt (view b) t r lr cr lv)
+        asked : asks (worldOf (view b) area) (worldOf (view b) area .obj c) g lr cr lv ≡ asksAt (view b) t r lr cr lv
         asked = λ i.
-            allHold
-            (gateConditions (caller-label b area c t by i) (caller-clearance b area c t by i) (its-label b area c t d g by k r l e i) (its-clearance i)
-            (label.labelOf lr) (label.labelOf cr) (label.labelOf lv))
+            gateConditions (caller-label b area c t by i) (caller-clearance b area c t by i) (its-label b area c t d g by k r l e i) (its-clearance i)
+            (label.labelOf lr) (label.labelOf cr) (label.labelOf lv)
 
-        from-seven : verdictOn b area c (enterGate d g lr cr lv n)
-            ≡ must (allHold (asks (worldOf (view b) area) (worldOf (view b) area .obj c) g lr cr lv)) 7
-            (grant ((worldOf (view b) area .obj g) .entry) ((worldOf (view b) area .obj g) .closure) (alter c (relabel (label.labelOf lr) (label.labelOf cr))))
-        from-seven = judged ∙ (must-passed _ 5 _ (is-entry b area c t d g by k r l e) ∙ must-passed _ 6 _ (is-gate ∙ eq-eqb (codeOf (view b) r) gateCode code))
+        abbrev enters : Verdict
+        enters = grant ((worldOf (view b) area .obj g) .entry) ((worldOf (view b) area .obj g) .closure) (alter c (relabel (label.labelOf lr) (label.labelOf cr)))
+
+        from-seven : verdictOn b area c (enterGate d g lr cr lv n) ≡ mustHold (asksAt (view b) t r lr cr lv) enters
+        from-seven =
+            judged ∙ (must-passed _ 5 _ (is-entry b area c t d g by k r l e)
+            ∙ (must-passed _ 6 _ (is-gate ∙ eq-eqb (codeOf (view b) r) gateCode code) ∙ ap (λ qs. mustHold qs enters) asked))
 
         -- a condition fails: 7
-        pub gate-seven : allHold (asksAt (view b) t r lr cr lv) ≡ false
-            → verdictOn b area c (enterGate d g lr cr lv n) ≡ refuse 7
-        gate-seven q = from-seven ∙ must-failed _ 7 _ (asked ∙ q)
+        pub gate-seven : (f : Refusal) → tested (asksAt (view b) t r lr cr lv) ≡ Fail f → Told b area (verdictOn b area c (enterGate d g lr cr lv n)) f
+        gate-seven f q = fail-told b area _ _ _ f from-seven q (by .ready)
 
         -- granted
-        pub to-enter : allHold (asksAt (view b) t r lr cr lv) ≡ true
-            → ToEnter b area c d g lr cr lv n t r l
+        pub to-enter : tested (asksAt (view b) t r lr cr lv) ≡ Pass
+            → ToEnter b area c d g lr cr lv n t r
         to-enter q =
             record {
               relabels =
                   record {
                     granted =
-                        from-seven ∙ (must-passed _ 7 _ (asked ∙ q)
+                        from-seven ∙ (pass-on _ _ q
                         ∙ ap₂ (λ (x : ℕ) (y : List ℕ). grant x y (alter c (relabel (label.labelOf lr) (label.labelOf cr))))
                         (ap (λ (x : Obj). x .entry) (object-is b area c t d g by k r l e) ∙ object-entry (view b) area r code)
                         (ap (λ (x : Obj). x .closure) (object-is b area c t d g by k r l e) ∙ object-closure (view b) area r code));

@@ -7,7 +7,7 @@ use lib.ListN.{length}
 use lib.Dec.{eqb, leb}
 use borrow.Author.Tests.{le-leb, lt-leb}
 use Rattle.labels.specs.declared.Label.{Label}
-use Rattle.rules.specs.Kernel.{segmentCode, Obj, World, Verdict, refuse, grant, must, judge, entry, opens, fits, isSegment, allHold, writing, flow, linkSegment, link, goodArguments}
+use Rattle.rules.specs.Kernel.{segmentCode, Obj, World, Condition, Verdict, refuse, grant, must, mustHold, judge, entry, opens, fits, isSegment, writing, flow, linkSegment, link, goodArguments}
 use Rattle.tables.specs.Layout.{view}
 use Rattle.book.specs.declared.Found.the-variants.{At, Nothing}
 use Rattle.book.specs.declared.find.Entry.the-variants as place
@@ -19,19 +19,23 @@ use Rattle.book.specs.Units.{spareAt}
 use Rattle.book.specs.Laws.Find.{link-linked, link-unlinked}
 use Rattle.book.specs.Laws.Tie.{object-fixed}
 use Rattle.calls.specs.declared.Answer.the-variants.{Granted}
-use Rattle.calls.specs.Outcome.{verdictOn, Ready, Done}
+use Rattle.calls.specs.declared.Refusal.{Refusal}
+use Rattle.calls.specs.declared.Tested.the-variants.{Pass, Fail}
+use Rattle.calls.specs.Outcome.{verdictOn, Ready, Told, Done}
+use Rattle.calls.specs.Conditions.{tested}
 use Rattle.calls.specs.Begun.{Caller}
 use Rattle.calls.specs.Lookup.{openContainer, openEntry}
 use Rattle.calls.specs.LinkSegment.{ToLink}
 use Rattle.calls.specs.Laws.Begun.{caller-judged, caller-label, caller-clearance, placed-by-caller}
+use Rattle.calls.specs.Laws.Conditions.{pass-on, fail-told}
 use Rattle.calls.specs.Laws.Entry.{no-entry, is-entry, object-below, object-there, object-named, object-found, object-is, segment-here, no-segment, its-label, its-quota}
 use Rattle.calls.specs.Laws.Lookup.{not-open, is-open, holder-there, holder-named, holder-found, holder-label, holder-fits}
 use Rattle.calls.specs.Laws.Prelude.{must-passed, must-failed, book-long, done-granted}
 
 -- ---- the tests, from each number on
 
-abbrev labelsHold : World → Obj → ℕ → ℕ → Bool
-labelsHold w t o d = allHold (writing (t .label) ((w .obj d) .label) ++ (flow ((w .obj o) .label) (t .clearance) ∷ []))
+abbrev conditionsOf : World → Obj → ℕ → ℕ → List Condition
+conditionsOf w t o d = writing (t .label) ((w .obj d) .label) ++ (flow ((w .obj o) .label) (t .clearance) ∷ [])
 
 abbrev from-thirteen : World → ℕ → ℕ → Verdict
 from-thirteen w o d = must (fits w d ((w .obj o) .quota)) 13 (grant 0 [] (link d o))
@@ -40,7 +44,7 @@ abbrev from-nine : World → ℕ → ℕ → Verdict
 from-nine w o d = must ((w .obj o) .fixed) 9 (must (not (w .linked d o)) 10 (from-thirteen w o d))
 
 abbrev from-six : World → Obj → ℕ → ℕ → Verdict
-from-six w t o d = must (isSegment ((w .obj o) .kind)) 6 (must (labelsHold w t o d) 7 (from-nine w o d))
+from-six w t o d = must (isSegment ((w .obj o) .kind)) 6 (mustHold (conditionsOf w t o d) (from-nine w o d))
 
 and-false : (a : Bool) → (a && false) ≡ false
 and-false true = refl
@@ -78,22 +82,25 @@ module _ (b area : List ℕ) (c t d1 o d : ℕ) (by : Caller b area c t) where
     -- x and u are the label and the clearance of the caller, z and p the labels of the container to link it in and of the segment
     module _ (s : n ≡ segmentCode) (x u z p : Label) (ex : x ≡ labelOf (view b) t) (eu : u ≡ clearanceOf (view b) t) (ez : z ≡ labelOf (view b) k) (ep : p ≡ labelOf (view b) r) where
       at-seven : verdictOn b area c (linkSegment d1 o d)
-          ≡ must (labelsHold (worldOf (view b) area) (worldOf (view b) area .obj c) o d) 7 (from-nine (worldOf (view b) area) o d)
+          ≡ mustHold (conditionsOf (worldOf (view b) area) (worldOf (view b) area .obj c) o d) (from-nine (worldOf (view b) area) o d)
       at-seven = at-six ∙ must-passed _ 6 _ (segment-here b area c t d1 o by h r l e n en s)
 
-      labels-are : labelsHold (worldOf (view b) area) (worldOf (view b) area .obj c) o d ≡ allHold (writing x z ++ (flow p u ∷ []))
+      labels-are : conditionsOf (worldOf (view b) area) (worldOf (view b) area .obj c) o d ≡ writing x z ++ (flow p u ∷ [])
       labels-are =
-          ap₂ (λ m w. allHold (writing m ((worldOf (view b) area .obj d) .label) ++ (flow ((worldOf (view b) area .obj o) .label) w ∷ [])))
+          ap₂ (λ m w. writing m ((worldOf (view b) area .obj d) .label) ++ (flow ((worldOf (view b) area .obj o) .label) w ∷ []))
           (caller-label b area c t by ∙ sym ex) (caller-clearance b area c t by ∙ sym eu)
-          ∙ ap₂ (λ m w. allHold (writing x m ++ (flow w u ∷ []))) (holder-label b area c t d by k g ∙ sym ez) (its-label b area c t d1 o by h r l e ∙ sym ep)
+          ∙ ap₂ (λ m w. writing x m ++ (flow w u ∷ [])) (holder-label b area c t d by k g ∙ sym ez) (its-label b area c t d1 o by h r l e ∙ sym ep)
+
+      by-labels : verdictOn b area c (linkSegment d1 o d) ≡ mustHold (writing x z ++ (flow p u ∷ [])) (from-nine (worldOf (view b) area) o d)
+      by-labels = at-seven ∙ ap (λ qs. mustHold qs (from-nine (worldOf (view b) area) o d)) labels-are
 
       -- a label condition fails: 7
-      pub label-seven : allHold (writing x z ++ (flow p u ∷ [])) ≡ false → verdictOn b area c (linkSegment d1 o d) ≡ refuse 7
-      label-seven w = at-seven ∙ must-failed _ 7 _ (labels-are ∙ w)
+      pub label-seven : (f : Refusal) → tested (writing x z ++ (flow p u ∷ [])) ≡ Fail f → Told b area (verdictOn b area c (linkSegment d1 o d)) f
+      label-seven f w = fail-told b area _ _ _ f by-labels w (by .ready)
 
-      module _ (w : allHold (writing x z ++ (flow p u ∷ [])) ≡ true) (a : Bool) (ea : a ≡ eqb (fixedOf (view b) r) 1) where
+      module _ (w : tested (writing x z ++ (flow p u ∷ [])) ≡ Pass) (a : Bool) (ea : a ≡ eqb (fixedOf (view b) r) 1) where
         at-nine : verdictOn b area c (linkSegment d1 o d) ≡ from-nine (worldOf (view b) area) o d
-        at-nine = at-seven ∙ must-passed _ 7 _ (labels-are ∙ w)
+        at-nine = by-labels ∙ pass-on _ _ w
 
         fixed-is : (worldOf (view b) area .obj o) .fixed ≡ a
         fixed-is =
@@ -136,7 +143,7 @@ module _ (b area : List ℕ) (c t d1 o d : ℕ) (by : Caller b area c t) where
             spare-thirteen j = at-thirteen ∙ must-failed _ 13 _ (fits-is ∙ lt-leb q′ m j)
 
             -- granted
-            pub to-link : q′ ≤ m → ToLink b area c d1 o d k r 0
+            pub to-link : q′ ≤ m → ToLink b area c d1 o d k r
             to-link j =
                 record {
                   granted = at-thirteen ∙ must-passed _ 13 _ (fits-is ∙ le-leb q′ m j);
@@ -148,7 +155,7 @@ module _ (b area : List ℕ) (c t d1 o d : ℕ) (by : Caller b area c t) where
 
 -- ---- doing it
 
-module _ (b area : List ℕ) (c d1 o d k r j : ℕ) (ready : Ready b area) (go : ToLink b area c d1 o d k r j) where
+module _ (b area : List ℕ) (c d1 o d k r : ℕ) (ready : Ready b area) (go : ToLink b area c d1 o d k r) where
   -- a link can be added there
   pub can-link : Linking b k r
   can-link =

@@ -124,9 +124,13 @@ pub look-bytes : (v : View) (area : List ℕ) (mine : Label) (r : ℕ) → codeO
 unfolding lookBytes
 look-bytes v area mine r small =
     ap₂ (λ (s : List ℕ) (z : List ℕ). s ++ z) (object-description v area r)
-    ((λ i. (kindCode (object-kind v area r i) ∷ cond (object-thread v area r i && not (mayRead mine (object-label v area r i))) (replicate (7 + wordCount * 8) 0) (1 ∷ object-label v area r i .default ∷ (replicate 5 0 ++ wordsBytes (object-label v area r i .words)))))
-    ∙ (ap (λ (k : ℕ). k ∷ cond (eqb (codeOf v r) threadCode && not (mayRead mine (labelOf v r))) (replicate (7 + wordCount * 8) 0) (1 ∷ labelOf v r .default ∷ (replicate 5 0 ++ wordsBytes (labelOf v r .words)))) (code-from (codeOf v r) small)
-    ∙ (under-cons (eqb (codeOf v r) threadCode && not (mayRead mine (labelOf v r))) (codeOf v r) (replicate (7 + wordCount * 8) 0) (1 ∷ labelOf v r .default ∷ (replicate 5 0 ++ wordsBytes (labelOf v r .words)))
+    ((λ i. (kindCode (object-kind v area r i)
+    ∷ cond (object-thread v area r i && not (mayRead mine (object-label v area r i))) (replicate (7 + wordCount * 8) 0)
+    (1 ∷ object-label v area r i .default ∷ (replicate 5 0 ++ wordsBytes (object-label v area r i .words)))))
+    ∙ (ap (λ (k : ℕ). k ∷ cond (eqb (codeOf v r) threadCode && not (mayRead mine (labelOf v r))) (replicate (7 + wordCount * 8) 0)
+    (1 ∷ labelOf v r .default ∷ (replicate 5 0 ++ wordsBytes (labelOf v r .words)))) (code-from (codeOf v r) small)
+    ∙ (under-cons (eqb (codeOf v r) threadCode && not (mayRead mine (labelOf v r))) (codeOf v r) (replicate (7 + wordCount * 8) 0)
+    (1 ∷ labelOf v r .default ∷ (replicate 5 0 ++ wordsBytes (labelOf v r .words)))
     ∙ choose (eqb (codeOf v r) threadCode && not (mayRead mine (labelOf v r))) (hiddenBytes (codeOf v r)) (shownBytes (codeOf v r) (labelOf v r)))))
 
 -- ---- the verdict
@@ -149,7 +153,7 @@ module _ (b area : List ℕ) (c t d o n : ℕ) (by : Caller b area c t) where
     look-five e = judged ∙ must-failed _ 5 _ (look-none b area c t d o by e)
 
     -- granted
-    pub to-look : (k r l : ℕ) → openLook (view b) t d o ≡ place.In k r l → ToLook b area c d o n t r l
+    pub to-look : (k r l : ℕ) → openLook (view b) t d o ≡ place.In k r l → ToLook b area c d o n t r
     to-look k r l e =
         let seen = look-found b area c t d o by k r l e in
         record {
@@ -169,7 +173,7 @@ module _ (b area : List ℕ) (c t d o n : ℕ) (by : Caller b area c t) where
         }
 
 -- the number moves on and nothing else is changed
-pub look-done : (b area : List ℕ) (c d o n t r l : ℕ) → Ready b area → ToLook b area c d o n t r l → (b′ : List ℕ) → length b′ ≡ length b
+pub look-done : (b area : List ℕ) (c d o n t r : ℕ) → Ready b area → ToLook b area c d o n t r → (b′ : List ℕ) → length b′ ≡ length b
     → view b′ ≡ movedOn (view b) → Done b area c (look d o n) (Granted 0) b′ area
 unfolding enactView enactArea
-look-done b area c d o n t r l ready go b′ long m = done-granted b area c (look d o n) ready b′ long 0 _ keep area (go .granted) m refl
+look-done b area c d o n t r ready go b′ long m = done-granted b area c (look d o n) ready b′ long 0 _ keep area (go .granted) m refl

@@ -10,7 +10,7 @@ use borrow.Author.Tests.{eq-eqb, ne-eqb}
 use Rattle.labels.specs.declared.Label.{Label}
 use Rattle.labels.specs.Core.{mayRead, wordsBytes, wordCount}
 use Rattle.rules.specs.Kernel.{threadCode, textSize, lookSize}
-use Rattle.tables.specs.Layout.{view, rowCount}
+use Rattle.tables.specs.Layout.{view, rowCount, descriptionT}
 use Rattle.tables.specs.Layout.Laws.{within}
 use Rattle.book.specs.Book.{codeOf, labelOf, descriptionOf}
 use Rattle.book.specs.Laws.Shapes.{view-shape}
@@ -66,7 +66,7 @@ rest-put out s z long text =
 description-long : (b : List ℕ) (r : ℕ) → r < rowCount → length (descriptionOf (view b) r) ≡ textSize
 description-long b r h =
     length-take-le textSize (drop (r * textSize) (view b .description))
-    (omega (arith, length-drop (r * textSize) (view b .description), view-shape b .description-long, within r rowCount textSize h))
+    (omega (arith, length-drop (r * textSize) (view b .description), view-shape b .long descriptionT, within r rowCount textSize h))
 
 -- a row's description, then its kind and label
 pub look-put : (b : List ℕ) (mine mine₂ theirs : Label) (kind r : ℕ) (out s z : List ℕ) → r < rowCount → length out ≡ lookSize → s ≡ descriptionOf (view b) r

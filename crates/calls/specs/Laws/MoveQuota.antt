@@ -9,7 +9,7 @@ use lib.Dec.{eqb, leb}
 use lib.IntN.{ℤ}
 use borrow.Author.Tests.{eq-eqb, ne-eqb, eqb-true, eqb-false, leb-true}
 use Rattle.labels.specs.declared.Label.{Label}
-use Rattle.rules.specs.Kernel.{segmentCode, containerCode, Obj, refuse, grant, must, fits, isSegment, isContainer, allHold, writing, flow, moveQuota, alter, requota, rootQuota, lastNumber}
+use Rattle.rules.specs.Kernel.{segmentCode, containerCode, Obj, Verdict, refuse, grant, must, mustHold, fits, isSegment, isContainer, writing, flow, moveQuota, alter, requota, rootQuota, lastNumber}
 use Rattle.rules.specs.Laws.Bools.{bool-cases}
 use Rattle.tables.specs.Layout.{View, view}
 use Rattle.book.specs.declared.find.Entry.the-variants as place
@@ -21,13 +21,17 @@ use Rattle.book.specs.Laws.Tie.{object-fixed, object-unfixed}
 use Rattle.calls.specs.declared.amount.Amount.{Amount}
 use Rattle.calls.specs.declared.amount.Amount.the-variants.{In, Out, Bad}
 use Rattle.calls.specs.declared.Answer.the-variants.{Granted}
+use Rattle.calls.specs.declared.Refusal.{Refusal}
+use Rattle.calls.specs.declared.Tested.the-variants.{Pass, Fail}
 use Rattle.calls.specs.Amount.{amountOf, overLimit, moreFor, roomFor, roomAt, quotaFor, Reckoned}
 use Rattle.calls.specs.Lookup.{openEntry}
 use Rattle.calls.specs.MoveQuota.{isFixed, ToMove}
-use Rattle.calls.specs.Outcome.{verdictOn, Ready, Done}
+use Rattle.calls.specs.Outcome.{verdictOn, Ready, Told, Done}
+use Rattle.calls.specs.Conditions.{tested}
 use Rattle.calls.specs.Begun.{Caller}
 use Rattle.calls.specs.Laws.Amount.{bad-argument, good-argument, moving, amount-judged, quota-small}
 use Rattle.calls.specs.Laws.Begun.{caller-judged, caller-four, caller-label, caller-clearance, sound-by-caller}
+use Rattle.calls.specs.Laws.Conditions.{pass-on, fail-told}
 use Rattle.calls.specs.Laws.Entry.{no-entry, is-entry, container-there, container-named, object-there, object-below, object-named}
 use Rattle.calls.specs.Laws.Entry.{object-found, object-is, is-segment, is-container, container-label, its-label, its-quota}
 use Rattle.calls.specs.Laws.Lookup.{fits-at}
@@ -105,37 +109,40 @@ module _ (b area : List ℕ) (c t d o : ℕ) (by : Caller b area c t) (z : ℤ) 
       -- x and p are the label and the clearance of the caller, y and q the labels of the container and of the object
       module _ (g : (eqb n segmentCode || eqb n containerCode) ≡ true) (x p y q : Label) (ex : x ≡ labelOf (view b) t) (ep : p ≡ clearanceOf (view b) t)
           (ey : y ≡ labelOf (view b) k) (eq : q ≡ labelOf (view b) r) where
-        labels-are : allHold
-            (writing ((worldOf (view b) area .obj c) .label) ((worldOf (view b) area .obj d) .label)
+        labels-are :
+            writing ((worldOf (view b) area .obj c) .label) ((worldOf (view b) area .obj d) .label)
             ++ (flow ((worldOf (view b) area .obj c) .label) ((worldOf (view b) area .obj o) .label)
             ∷ flow ((worldOf (view b) area .obj o) .label) ((worldOf (view b) area .obj c) .clearance)
-            ∷ moreFor u ((worldOf (view b) area .obj c) .label) ((worldOf (view b) area .obj o) .label)))
-            ≡ allHold (writing x y ++ (flow x q ∷ flow q p ∷ moreFor u x q))
+            ∷ moreFor u ((worldOf (view b) area .obj c) .label) ((worldOf (view b) area .obj o) .label))
+            ≡ writing x y ++ (flow x q ∷ flow q p ∷ moreFor u x q)
         labels-are =
             ap₂ (λ m w.
-            allHold
-            (writing m ((worldOf (view b) area .obj d) .label)
-            ++ (flow m ((worldOf (view b) area .obj o) .label) ∷ flow ((worldOf (view b) area .obj o) .label) w ∷ moreFor u m ((worldOf (view b) area .obj o) .label))))
+            writing m ((worldOf (view b) area .obj d) .label)
+            ++ (flow m ((worldOf (view b) area .obj o) .label) ∷ flow ((worldOf (view b) area .obj o) .label) w ∷ moreFor u m ((worldOf (view b) area .obj o) .label)))
             (caller-label b area c t by ∙ sym ex) (caller-clearance b area c t by ∙ sym ep)
-            ∙ ap₂ (λ m w. allHold (writing x m ++ (flow x w ∷ flow w p ∷ moreFor u x w)))
+            ∙ ap₂ (λ m w. writing x m ++ (flow x w ∷ flow w p ∷ moreFor u x w))
             (container-label b area c t d o by k r l e ∙ sym ey) (its-label b area c t d o by k r l e ∙ sym eq)
 
-        -- a label condition fails: 7
-        pub label-seven : allHold (writing x y ++ (flow x q ∷ flow q p ∷ moreFor u x q)) ≡ false → verdictOn b area c (moveQuota d o z) ≡ refuse 7
-        label-seven h =
+        -- the tests from 9 on
+        abbrev last-tests : Verdict
+        last-tests =
+            must (not ((worldOf (view b) area .obj o) .fixed)) 9
+            (must (roomFor u (worldOf (view b) area) d o) 13
+            (grant 0 [] (alter o (requota (quotaFor u ((worldOf (view b) area .obj o) .quota))))))
+
+        from-seven : verdictOn b area c (moveQuota d o z) ≡ mustHold (writing x y ++ (flow x q ∷ flow q p ∷ moreFor u x q)) last-tests
+        from-seven =
             judged
             ∙ (must-passed _ 5 _ (is-entry b area c t d o by k r l e)
-            ∙ (must-passed _ 6 _ (kind-is ∙ g) ∙ must-failed _ 7 _ (labels-are ∙ h)))
+            ∙ (must-passed _ 6 _ (kind-is ∙ g) ∙ ap (λ qs. mustHold qs last-tests) labels-are))
 
-        module _ (h : allHold (writing x y ++ (flow x q ∷ flow q p ∷ moreFor u x q)) ≡ true) where
-          at-nine : verdictOn b area c (moveQuota d o z)
-              ≡ must (not ((worldOf (view b) area .obj o) .fixed)) 9
-              (must (roomFor u (worldOf (view b) area) d o) 13
-              (grant 0 [] (alter o (requota (quotaFor u ((worldOf (view b) area .obj o) .quota))))))
-          at-nine =
-              judged
-              ∙ (must-passed _ 5 _ (is-entry b area c t d o by k r l e)
-              ∙ (must-passed _ 6 _ (kind-is ∙ g) ∙ must-passed _ 7 _ (labels-are ∙ h)))
+        -- a label condition fails: 7
+        pub label-seven : (f : Refusal) → tested (writing x y ++ (flow x q ∷ flow q p ∷ moreFor u x q)) ≡ Fail f → Told b area (verdictOn b area c (moveQuota d o z)) f
+        label-seven f h = fail-told b area _ _ _ f from-seven h (by .ready)
+
+        module _ (h : tested (writing x y ++ (flow x q ∷ flow q p ∷ moreFor u x q)) ≡ Pass) where
+          at-nine : verdictOn b area c (moveQuota d o z) ≡ last-tests
+          at-nine = from-seven ∙ pass-on _ _ h
 
           fixed-is : (worldOf (view b) area .obj o) .fixed ≡ isFixed (view b) r
           fixed-is = ap (λ (v : Obj). v .fixed) (object-is b area c t d o by k r l e) ∙ fixed-object (view b) area r
@@ -161,7 +168,7 @@ module _ (b area : List ℕ) (c t d o : ℕ) (by : Caller b area c t) (z : ℤ) 
             spare-thirteen j = at-thirteen ∙ must-failed _ 13 _ (rooms ∙ j)
 
             -- granted
-            pub to-move : roomAt u (view b) k r ≡ true → ToMove b area c d o z u r 0 0
+            pub to-move : roomAt u (view b) k r ≡ true → ToMove b area c d o z u r 0
             to-move j =
                 record {
                   granted =
@@ -175,7 +182,7 @@ module _ (b area : List ℕ) (c t d o : ℕ) (by : Caller b area c t) (z : ℤ) 
 
 -- ---- doing it
 
-module _ (b area : List ℕ) (c d o : ℕ) (z : ℤ) (u : Amount) (r j k : ℕ) (ready : Ready b area) (go : ToMove b area c d o z u r j k) where
+module _ (b area : List ℕ) (c d o : ℕ) (z : ℤ) (u : Amount) (r j : ℕ) (ready : Ready b area) (go : ToMove b area c d o z u r j) where
   -- q is the quota it had, and m the one it gets
   module _ (q m : ℕ) (eq : q ≡ quotaOf (view b) r) (em : m ≡ quotaFor u q) where
     new-quota : m ≡ quotaFor u (quotaOf (view b) r)

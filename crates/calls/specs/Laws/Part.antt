@@ -13,6 +13,7 @@ use Rattle.book.specs.declared.Found.the-variants.{At, Nothing}
 use Rattle.book.specs.declared.find.Entry.the-variants as place
 use Rattle.book.specs.Book.{codeOf, lenOf, isBlock, first, blockAt}
 use Rattle.book.specs.Laws.First.{first-low, on-at, on-nothing}
+use Rattle.calls.specs.declared.Refusal.the-variants.{WrongKind, BeyondLength}
 use Rattle.calls.specs.declared.Judged.{Judged}
 use Rattle.calls.specs.Outcome.{Means}
 use Rattle.calls.specs.Begun.{Caller}
@@ -20,7 +21,7 @@ use Rattle.calls.specs.Lookup.{openEntry}
 use Rattle.calls.specs.Part.{partOn, Lies, partAt}
 use Rattle.calls.specs.Laws.Access.{access-five, access-at, segment-length}
 use Rattle.calls.specs.Laws.Entry.{object-found}
-use Rattle.calls.specs.Laws.Tested.{means-tested}
+use Rattle.calls.specs.Laws.Tested.{means-tested, means-passing}
 
 -- ---- RULES 8.12: "4 if k is above 253, or if from + count, reckoned without overflow, is above 64."
 
@@ -70,13 +71,13 @@ module _ (b area : List ℕ) (c t d s k f n : ℕ) (by : Caller b area c t) (wri
   pub part-five : openEntry (view b) t d s ≡ place.Nothing → v ≡ refuse 5
   part-five e = on ∙ access-five b area c t d s by writes _ e
 
-  pub part-judged : (go : ℕ → ℕ → ℕ → Type 0) → ((p : ℕ) → Lies b s k f n p → v ≡ rest → go p 0 0)
+  pub part-judged : (go : ℕ → ℕ → Type 0) → ((p : ℕ) → Lies b s k f n p → v ≡ rest → go p 0)
       → (h r l : ℕ) → openEntry (view b) t d s ≡ place.In h r l → (x : Judged) → x ≡ partAt (view b) t r k f n writes → Means b area v go x
   part-judged go granted h r l e x ex =
       let row = object-found b area c t d s by h r l e in
       subst (Means b area v go) (sym ex)
-      (means-tested b area (by .ready) go v _ 6 _ _ (omega arith) (on ∙ access-at b area c t d s by writes _ h r l e)
+      (means-tested b area (by .ready) go v _ WrongKind 6 _ _ refl (on ∙ access-at b area c t d s by writes _ h r l e)
       (λ g6 e6. let code = eqb-true (codeOf (view b) r) segmentCode g6 in
-      means-tested b area (by .ready) go v _ 7 _ _ (omega arith) e6
-      (λ g7 e7. means-tested b area (by .ready) go v _ 11 _ _ (omega arith) (e7 ∙ ap (λ (m : ℕ). must (leb (blockSize * k + f + n) m) 11 rest) (segment-length b area s r row code))
+      means-passing b area (by .ready) go v _ _ _ e6
+      (λ e7. means-tested b area (by .ready) go v _ BeyondLength 11 _ _ refl (e7 ∙ ap (λ (m : ℕ). must (leb (blockSize * k + f + n) m) 11 rest) (segment-length b area s r row code))
       (λ g11 e11. (by .ready, granted _ (record { at-row = r; row = row; code = code; place = refl; within = leb-true (blockSize * k + f + n) (lenOf (view b) r) g11; one = one }) e11)))))

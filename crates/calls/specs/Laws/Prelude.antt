@@ -1,13 +1,13 @@
 -- What every call's judging begins with, and what its tests make of the verdict.
 use Prim.Native.Nat.{ℕ, _≤_, _<_}
-use native.Mathlib.Omega.{arith}
 use mathlib.Core.Bool.{Bool, true, false, _&&_, false≢true}
-use mathlib.Core.Path.{_≡_, refl, sym, _∙_}
+use mathlib.Core.Path.{_≡_, refl, sym, subst, _∙_}
 use mathlib.Core.List.{List}
 use lib.ListN.{length}
 use lib.Dec.{eqb}
 use borrow.Author.Tests.{le-leb, lt-leb, eqb-true}
-use Rattle.rules.specs.Kernel.{Verdict, refuse, grant, must, Call, Change, call, tests, judge, isThread, goodArguments, lastNumber, answerOf, valueOf}
+use Rattle.rules.specs.Kernel.{Refusal, by, numberOf, valueWith, Verdict, refused, refuse, grant, unless, must, Call, Change, call, tests, judge, isThread, goodArguments}
+use Rattle.rules.specs.Kernel.{lastNumber, answerOf, valueOf}
 use Rattle.rules.specs.Sound as rules
 use Rattle.tables.specs.Layout.{view, size}
 use Rattle.book.specs.Book.{nextOf, worldOf}
@@ -23,11 +23,11 @@ use Rattle.calls.specs.Outcome.{verdictOn, bookLeft, areaLeft, Done, Rea
 -- ---- must
 
 pub must-passed : (p : Bool) (k : ℕ) (r : Verdict) → p ≡ true → must p k r ≡ r
-unfolding must
+unfolding unless must
 must-passed p k r e = rw e
 
 pub must-failed : (p : Bool) (k : ℕ) (r : Verdict) → p ≡ false → must p k r ≡ refuse k
-unfolding must
+unfolding unless must
 must-failed p k r e = rw e
 
 -- ---- what good areas are
@@ -96,30 +96,35 @@ module _ (b area : List ℕ) (c : ℕ) (x : Call) where
 
 -- ---- what is left after each way out
 
+-- a refusal has the value 0
+no-value : (f : Refusal) → 0 ≡ valueWith f
+no-value (by k) = refl
+
 module _ (b area : List ℕ) (c : ℕ) (x : Call) where
-  -- stopped by 1 or 2: nothing changed
-  pub done-stopped : (k : ℕ) → verdictOn b area c x ≡ refuse k → k ≤ 2 → Done b area c x (Refused k) b area
+  -- refused by 1 or 2: nothing changed
+  pub done-stopped : (f : Refusal) (n : ℕ) → n ≡ numberOf f → verdictOn b area c x ≡ refused f → n ≤ 2 → Done b area c x (Refused n) b area
   unfolding bookLeft areaLeft answerOf valueOf
-  done-stopped k e l =
+  done-stopped f n i e l =
       record {
-        answer = rw e;
-        value = rw e;
-        left = record { length-same = refl; book-kept = λ g. refl; book-left = λ g. rw (e, le-leb k 2 l); area-left = rw e };
+        answer = rw e i;
+        value = rw e (no-value f);
+        left = record { length-same = refl; book-kept = λ g. refl; book-left = λ g. rw (e, le-leb (numberOf f) 2 (subst (λ m. m ≤ 2) i l)); area-left = rw e };
       }
 
   module _ (ready : Ready b area) (b′ : List ℕ) (long : length b′ ≡ length b) where
     -- refused by a later number: the number moved on
-    pub done-refused : (k : ℕ) → verdictOn b area c x ≡ refuse k → 3 ≤ k → view b′ ≡ movedOn (view b) → Done b area c x (Refused k) b′ area
+    pub done-refused : (f : Refusal) (n : ℕ) → n ≡ numberOf f → verdictOn b area c x ≡ refused f → 2 < n → view b′ ≡ movedOn (view b)
+        → Done b area c x (Refused n) b′ area
     unfolding bookLeft areaLeft answerOf valueOf
-    done-refused k e l m =
+    done-refused f n i e l m =
         record {
-          answer = rw e;
-          value = rw e;
+          answer = rw e i;
+          value = rw e (no-value f);
           left =
               record {
                 length-same = long;
                 book-kept = λ g. absurd (false≢true (sym g ∙ ready .areas));
-                book-left = λ g. rw (e, lt-leb k 2 (omega arith)) m;
+                book-left = λ g. rw (e, lt-leb (numberOf f) 2 (subst (λ k. 2 < k) i l)) m;
                 area-left = rw e;
               };
         }

@@ -1,5 +1,5 @@
 -- Call 12: the verdict at each way out of its judging, and what it does.
-use Prim.Native.Nat.{ℕ, _+_, _*_, _-_, _≤_}
+use Prim.Native.Nat.{ℕ, _+_, _*_, _-_}
 use native.Mathlib.Nat.{add-sub-cancel-left}
 use native.Mathlib.Omega.{arith}
 use mathlib.Core.Bool.{true, false, _&&_}
@@ -16,8 +16,10 @@ use Rattle.book.specs.Laws.First.{on-at}
 use Rattle.book.specs.Laws.Tie.{row-is}
 use Rattle.book.specs.Laws.Write.{part-low, read-part}
 use Rattle.book.specs.declared.find.Entry.the-variants as place
+use Rattle.calls.specs.declared.Answer.{Answer}
+use Rattle.calls.specs.declared.Refusal.{Refusal}
 use Rattle.calls.specs.declared.Judged.{Judged}
-use Rattle.calls.specs.Outcome.{verdictOn, Means, Ready}
+use Rattle.calls.specs.Outcome.{verdictOn, numberOf, valueIn, Means, Ready, ruled, Told, LeavesBy}
 use Rattle.calls.specs.Begun.{Caller}
 use Rattle.calls.specs.Lookup.{openEntry}
 use Rattle.calls.specs.Part.{partOn, partAt}
@@ -25,7 +27,7 @@ use Rattle.calls.specs.Read.{ToRead, PartAt, NoPart, placeIn, beginsAt, 
 use Rattle.calls.specs.Laws.Access.{segment-bytes}
 use Rattle.calls.specs.Laws.Begun.{caller-four, caller-judged, placed-by-caller}
 use Rattle.calls.specs.Laws.Part.{part-fits, part-five, part-judged}
-use Rattle.calls.specs.Laws.Prelude.{area-long, done-stopped, done-refused, done-granted}
+use Rattle.calls.specs.Laws.Prelude.{area-long, done-granted}
 
 module _ (b area : List ℕ) (c t d s k f n : ℕ) (by : Caller b area c t) where
   -- no part of a block: 4
@@ -64,16 +66,13 @@ module _ (b area : List ℕ) (c t d s k f n : ℕ) (by : Caller b area c t) wher
 -- ---- as numbers
 
 module _ (b area : List ℕ) (c d s k f n : ℕ) where
-  pub located-stopped : (m : ℕ) → verdictOn b area c (read d s k f n) ≡ refuse m → m ≤ 2 → NoPart b area c d s k f n b m
-  located-stopped m e l = record { refused = e; left = done-stopped b area c (read d s k f n) m e l .left }
+  pub located-off : (r : Refusal) (a : Answer) (b′ : List ℕ) → Told b area (verdictOn b area c (read d s k f n)) r → LeavesBy b r a b′ → NoPart b area c d s k f n b′ a
+  located-off r a b′ t l = record { why = ruled r; verdict = t .verdict; answered = l .answer; done = l .done area c (read d s k f n) t }
 
   module _ (ready : Ready b area) (b′ : List ℕ) (long : length b′ ≡ length b) (moved : view b′ ≡ movedOn (view b)) where
-    pub located-refused : (m : ℕ) → verdictOn b area c (read d s k f n) ≡ refuse m → 3 ≤ m → NoPart b area c d s k f n b′ m
-    located-refused m e l = record { refused = e; left = done-refused b area c (read d s k f n) ready b′ long m e l moved .left }
-
-    pub located-at : (p j l : ℕ) → ToRead b area c d s k f n p j l → PartAt b area c d s k f n b′ p n
+    pub located-at : (p j : ℕ) → ToRead b area c d s k f n p j → PartAt b area c d s k f n b′ p n
     unfolding enactView enactArea
-    located-at p j l go =
+    located-at p j go =
         let r = go .lies .at-row in
         record {
           granted = go .granted;
@@ -103,14 +102,15 @@ module _ (b : List ℕ) (area : RefT (List ℕ)) (c d s k f n : ℕ) (b′ : Lis
         left = h .left;
       }
 
-  pub off-shown : (m : ℕ) → NoPart b (now area) c d s k f n b′ m → now part ≡ [] → ptr part .1 ≡ ptr area .1 + 0 → Shown b area c d s k f n m 0 part b′
-  unfolding answerOf valueOf outputOf beginsAt
-  off-shown m h e from =
+  pub off-shown : (a : Answer) (m x : ℕ) → m ≡ numberOf a → x ≡ valueIn a → NoPart b (now area) c d s k f n b′ a → now part ≡ [] → ptr part .1 ≡ ptr area .1 + 0
+      → Shown b area c d s k f n m x part b′
+  unfolding outputOf beginsAt
+  off-shown a m x i j h e from =
       record {
-        answer-is = sym (ap answerOf (h .refused));
-        value-is = sym (ap valueOf (h .refused));
-        part-is = e ∙ sym (ap outputOf (h .refused));
+        answer-is = i ∙ h .done .answer;
+        value-is = j ∙ h .done .value;
+        part-is = e ∙ sym (ap outputOf (h .verdict));
         memory-is = memory;
-        place-is = from ∙ sym (ap (λ (v : Verdict). ptr area .1 + beginsAt v (placeIn (view b) s k f)) (h .refused));
-        left = h .left;
+        place-is = from ∙ sym (ap (λ (v : Verdict). ptr area .1 + beginsAt v (placeIn (view b) s k f)) (h .verdict));
+        left = h .done .left;
       }

@@ -1,14 +1,13 @@
 -- Call 14: the verdict at each way out of its judging, and what it does.
 use Prim.Native.Nat.{ℕ, _<_, _≤_}
 use native.Mathlib.Omega.{arith}
-use mathlib.Core.Bool.{true, false}
+use mathlib.Core.Bool.{true}
 use mathlib.Core.Path.{_≡_, sym, ap, ap₂, subst, _∙_}
 use mathlib.Core.List.{List, []}
 use lib.ListN.{length}
 use lib.Dec.{leb}
 use borrow.Author.Tests.{eq-eqb, ne-eqb, le-leb, lt-leb}
-use Rattle.labels.specs.Core.{mayWrite}
-use Rattle.rules.specs.Kernel.{segmentCode, refuse, grant, must, judge, resize, resized, alter, rewrite, units, goodArguments, maxLength, lastNumber}
+use Rattle.rules.specs.Kernel.{segmentCode, refuse, grant, must, mustHold, judge, writing, resize, resized, alter, rewrite, units, goodArguments, maxLength, lastNumber}
 use Rattle.tables.specs.Layout.{View, view, size, rowCount}
 use Rattle.book.specs.declared.Found.the-variants.{At}
 use Rattle.book.specs.declared.find.Entry.the-variants as place
@@ -17,17 +16,19 @@ use Rattle.book.specs.Enact.{areaSize, movedOn, lengthened, areaAfter, enactVie
 use Rattle.book.specs.Sound.{Sound}
 use Rattle.book.specs.Laws.Lengthened.{lengthened-is}
 use Rattle.book.specs.Laws.Resize.{resized-view, resized-enacted}
-use Rattle.book.specs.Laws.Shapes.{view-shape}
 use Rattle.book.specs.Laws.Tie.{row-is}
 use Rattle.calls.specs.declared.Answer.the-variants.{Granted}
-use Rattle.calls.specs.Outcome.{verdictOn, Ready, Done}
+use Rattle.calls.specs.declared.Refusal.{Refusal}
+use Rattle.calls.specs.declared.Tested.the-variants.{Pass, Fail}
+use Rattle.calls.specs.Outcome.{verdictOn, Ready, Told, Done}
+use Rattle.calls.specs.Conditions.{tested}
 use Rattle.calls.specs.Begun.{Caller}
 use Rattle.calls.specs.Access.{accessOn}
 use Rattle.calls.specs.Lookup.{openEntry}
 use Rattle.calls.specs.Resize.{ToResize}
 use Rattle.calls.specs.Laws.Access.{access-five, access-at, open-low, segment-quota, segment-bytes}
 use Rattle.calls.specs.Laws.Begun.{caller-four, caller-judged}
-use Rattle.calls.specs.Laws.Conditions.{writing-only}
+use Rattle.calls.specs.Laws.Conditions.{pass-on, fail-told}
 use Rattle.calls.specs.Laws.Entry.{object-found}
 use Rattle.calls.specs.Laws.Prelude.{must-passed, must-failed, book-long, area-long, book-sound, done-granted}
 
@@ -63,35 +64,35 @@ module _ (b area : List ℕ) (c t d s n : ℕ) (by : Caller b area c t) where
         row = object-found b area c t d s by k r l e
 
         from-seven : verdictOn b area c (resize d s n)
-            ≡ must (mayWrite (labelOf (view b) t) (labelOf (view b) r)) 7
+            ≡ mustHold (writing (labelOf (view b) t) (labelOf (view b) r))
             (must (leb (units n) (quotaOf (view b) r)) 13
             (grant 0 [] (alter s (rewrite (resized n (bytesOf (view b) area r))))))
         from-seven =
             judged
             ∙ access-at b area c t d s by true _ k r l e
             ∙ must-passed _ 6 _ (eq-eqb (codeOf (view b) r) segmentCode code)
-            ∙ (λ j. must (writing-only (labelOf (view b) t) (labelOf (view b) r) j) 7
+            ∙ (λ j. mustHold (writing (labelOf (view b) t) (labelOf (view b) r))
             (must (leb (units n) (segment-quota b area s r row j)) 13
             (grant 0 [] (alter s (rewrite (resized n (segment-bytes b area s r row code j)))))))
 
         -- not writable: 7
-        pub write-seven : mayWrite (labelOf (view b) t) (labelOf (view b) r) ≡ false → verdictOn b area c (resize d s n) ≡ refuse 7
-        write-seven w = from-seven ∙ must-failed _ 7 _ w
+        pub write-seven : (f : Refusal) → tested (writing (labelOf (view b) t) (labelOf (view b) r)) ≡ Fail f → Told b area (verdictOn b area c (resize d s n)) f
+        write-seven f w = fail-told b area _ _ _ f from-seven w (by .ready)
 
         -- q is the segment's quota, m what the new length uses
-        module _ (w : mayWrite (labelOf (view b) t) (labelOf (view b) r) ≡ true) (q m : ℕ) (eq : q ≡ quotaOf (view b) r) (em : m ≡ units n) where
+        module _ (w : tested (writing (labelOf (view b) t) (labelOf (view b) r)) ≡ Pass) (q m : ℕ) (eq : q ≡ quotaOf (view b) r) (em : m ≡ units n) where
           fits-is : leb (units n) (quotaOf (view b) r) ≡ leb m q
           fits-is = ap₂ leb (sym em) (sym eq)
 
           -- not enough spare: 13
           pub spare-thirteen : q < m → verdictOn b area c (resize d s n) ≡ refuse 13
-          spare-thirteen o = from-seven ∙ must-passed _ 7 _ w ∙ must-failed _ 13 _ (fits-is ∙ lt-leb m q o)
+          spare-thirteen o = from-seven ∙ pass-on _ _ w ∙ must-failed _ 13 _ (fits-is ∙ lt-leb m q o)
 
           -- granted
-          pub to-resize : m ≤ q → ToResize b area c d s n r 0 0
+          pub to-resize : m ≤ q → ToResize b area c d s n r 0
           to-resize o =
               record {
-                granted = from-seven ∙ must-passed _ 7 _ w ∙ must-passed _ 13 _ (fits-is ∙ le-leb m q o);
+                granted = from-seven ∙ pass-on _ _ w ∙ must-passed _ 13 _ (fits-is ∙ le-leb m q o);
                 row = row;
                 code = code;
                 most = h;
@@ -100,7 +101,7 @@ module _ (b area : List ℕ) (c t d s n : ℕ) (by : Caller b area c t) where
 
 -- ---- doing it
 
-module _ (b area : List ℕ) (c d s n r j k : ℕ) (ready : Ready b area) (go : ToResize b area c d s n r j k) where
+module _ (b area : List ℕ) (c d s n r j : ℕ) (ready : Ready b area) (go : ToResize b area c d s n r j) where
   low : r < rowCount
   low = open-low b s r (go .row)
 
@@ -124,8 +125,8 @@ module _ (b area : List ℕ) (c d s n r j k : ℕ) (ready : Ready b area) (go : 
         done-granted b area c (resize d s n) ready b′ long 0 [] (alter s (rewrite (resized n (bytesOf (view b) area r)))) area₁ (go .granted)
         (e ∙ ap movedOn m
         ∙ subst (λ (o : ℕ). movedOn (lengthened r n (view b)) ≡ enactView (alter o (rewrite (resized n (bytesOf (view b) area r)))) (view b) area) i
-        (sym (resized-view (view b) (view-shape b) x r low (go .code) n (go .fits) area)))
+        (sym (resized-view (view b) x r low (go .code) n area)))
         (z
         ∙ subst (λ (o : ℕ). areaAfter (view b) (lengthened r n (view b)) r (resized n (bytesOf (view b) area r)) area
         ≡ enactArea (alter o (rewrite (resized n (bytesOf (view b) area r)))) (view b) area) i
-        (sym (resized-enacted (view b) (view-shape b) x r low (go .code) n (go .fits) area)))
+        (sym (resized-enacted (view b) x r low (go .code) n area)))

@@ -1,30 +1,31 @@
 -- Call 8: the verdict at each way out of its judging.
 use Prim.Native.Nat.{ℕ}
-use mathlib.Core.Bool.{true, false}
 use mathlib.Core.Path.{_≡_, refl, ap, ap₂, _∙_}
 use mathlib.Core.List.{List, []}
 use lib.ListN.{length}
-use Rattle.labels.specs.Core.{mayWrite}
-use Rattle.rules.specs.Kernel.{refuse, grant, must, judge, entry, allHold, writing, unreference, cut, goodArguments}
+use Rattle.rules.specs.Kernel.{refuse, grant, must, mustHold, judge, entry, writing, unreference, cut, goodArguments}
 use Rattle.tables.specs.Layout.{view}
 use Rattle.book.specs.Book.{labelOf, worldOf}
 use Rattle.book.specs.Cut.{cutAt, Cutting}
 use Rattle.book.specs.Enact.{enactView, enactArea}
 use Rattle.book.specs.declared.find.Entry.the-variants as place
 use Rattle.calls.specs.declared.Answer.the-variants.{Granted}
-use Rattle.calls.specs.Outcome.{verdictOn, Ready, Done}
+use Rattle.calls.specs.declared.Refusal.{Refusal}
+use Rattle.calls.specs.declared.Tested.the-variants.{Pass, Fail}
+use Rattle.calls.specs.Outcome.{verdictOn, Ready, Told, Done}
+use Rattle.calls.specs.Conditions.{tested}
 use Rattle.calls.specs.Begun.{Caller}
 use Rattle.calls.specs.Lookup.{openEntry}
 use Rattle.calls.specs.Unreference.{ToCut}
 use Rattle.calls.specs.Laws.Begun.{caller-judged, caller-label}
-use Rattle.calls.specs.Laws.Conditions.{writing-only}
+use Rattle.calls.specs.Laws.Conditions.{pass-on, fail-told}
 use Rattle.calls.specs.Laws.Entry.{no-entry, is-entry, link-there, link-from, link-to, container-label}
 use Rattle.calls.specs.Laws.Prelude.{must-passed, must-failed, book-long, area-long, book-sound, done-granted}
 
 module _ (b area : List ℕ) (c t d o : ℕ) (by : Caller b area c t) where
   judged : verdictOn b area c (unreference d o)
       ≡ must (entry (worldOf (view b) area) (worldOf (view b) area .obj c) d o) 5
-      (must (allHold (writing ((worldOf (view b) area .obj c) .label) ((worldOf (view b) area .obj d) .label))) 7 (grant 0 [] (cut d o)))
+      (mustHold (writing ((worldOf (view b) area .obj c) .label) ((worldOf (view b) area .obj d) .label)) (grant 0 [] (cut d o)))
   unfolding judge goodArguments
   judged = caller-judged b area c t by (unreference d o) refl
 
@@ -33,20 +34,20 @@ module _ (b area : List ℕ) (c t d o : ℕ) (by : Caller b area c t) where
   none-five e = judged ∙ must-failed _ 5 _ (no-entry b area c t d o by e)
 
   module _ (k r l : ℕ) (e : openEntry (view b) t d o ≡ place.In k r l) where
-    writable : allHold (writing ((worldOf (view b) area .obj c) .label) ((worldOf (view b) area .obj d) .label)) ≡ mayWrite (labelOf (view b) t) (labelOf (view b) k)
-    writable =
-        writing-only _ _
-        ∙ ap₂ mayWrite (caller-label b area c t by) (container-label b area c t d o by k r l e)
+    from-seven : verdictOn b area c (unreference d o) ≡ mustHold (writing (labelOf (view b) t) (labelOf (view b) k)) (grant 0 [] (cut d o))
+    from-seven =
+        judged ∙ (must-passed _ 5 _ (is-entry b area c t d o by k r l e)
+        ∙ ap₂ (λ x y. mustHold (writing x y) (grant 0 [] (cut d o))) (caller-label b area c t by) (container-label b area c t d o by k r l e))
 
     -- not writable: 7
-    pub write-seven : mayWrite (labelOf (view b) t) (labelOf (view b) k) ≡ false → verdictOn b area c (unreference d o) ≡ refuse 7
-    write-seven g = judged ∙ (must-passed _ 5 _ (is-entry b area c t d o by k r l e) ∙ must-failed _ 7 _ (writable ∙ g))
+    pub write-seven : (f : Refusal) → tested (writing (labelOf (view b) t) (labelOf (view b) k)) ≡ Fail f → Told b area (verdictOn b area c (unreference d o)) f
+    write-seven f g = fail-told b area _ _ _ f from-seven g (by .ready)
 
     -- granted
-    pub to-cut : mayWrite (labelOf (view b) t) (labelOf (view b) k) ≡ true → ToCut b area c d o l 0 0
+    pub to-cut : tested (writing (labelOf (view b) t) (labelOf (view b) k)) ≡ Pass → ToCut b area c d o l 0
     to-cut g =
         record {
-          granted = judged ∙ (must-passed _ 5 _ (is-entry b area c t d o by k r l e) ∙ must-passed _ 7 _ (writable ∙ g));
+          granted = from-seven ∙ pass-on _ _ g;
           link-on = link-there b area c t d o by k r l e;
           from-id = link-from b area c t d o by k r l e;
           to-id = link-to b area c t d o by k r l e;
@@ -54,7 +55,7 @@ module _ (b area : List ℕ) (c t d o : ℕ) (by : Caller b area c t) where
 
 -- ---- doing it
 
-module _ (b area : List ℕ) (c d o l j k : ℕ) (ready : Ready b area) (go : ToCut b area c d o l j k) where
+module _ (b area : List ℕ) (c d o l j : ℕ) (ready : Ready b area) (go : ToCut b area c d o l j) where
   -- the book can be cut there
   pub can-cut : Cutting b area l
   can-cut =

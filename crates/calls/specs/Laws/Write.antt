@@ -83,7 +83,7 @@ module _ (b area : List ℕ) (c t d s k f n : ℕ) (bytes : List ℕ) (by : Call
 
 -- ---- doing it
 
-module _ (b area : List ℕ) (c d s k f n : ℕ) (bytes : List ℕ) (p j l : ℕ) (ready : Ready b area) (go : ToWrite b area c d s k f n bytes p j l) where
+module _ (b area : List ℕ) (c d s k f n : ℕ) (bytes : List ℕ) (p j : ℕ) (ready : Ready b area) (go : ToWrite b area c d s k f n bytes p j) where
   long : length area ≡ areaSize
   long = area-long b area (ready .areas)
 

@@ -4,7 +4,7 @@ use mathlib.Core.Bool.{true}
 use mathlib.Core.Path.{_≡_, refl, sym, subst}
 use mathlib.Core.List.{List}
 use lib.Dec.{leb}
-use Rattle.rules.specs.Kernel.{Call, Verdict, refuse, grant, call}
+use Rattle.rules.specs.Kernel.{Call, numberOf, Verdict, refused, grant, call}
 use Rattle.rules.specs.Laws.Bools.{bool-cases}
 use Rattle.rules.specs.Laws.Grants.{grants-fair}
 use Rattle.rules.specs.Laws.Must.{passed}
@@ -20,7 +20,7 @@ use Rattle.calls.specs.Theorems.Kept.{verdict-is}
 module _ (b area : List ℕ) (good : areasB b area ≡ true) (w : Wiped (view b) area) (c : ℕ) (x : Call) where
   wiped-by : (v : Verdict) → call (worldOf (view b) area) c x ≡ v → Wiped (bookLeft v (view b) area) (areaLeft v (view b) area)
   unfolding bookLeft areaLeft
-  wiped-by (refuse k) e = bool-cases (leb k 2) (λ t. rw t w) (λ t. rw t (moved-wiped (view b) area w))
+  wiped-by (refused r) e = bool-cases (leb (numberOf r) 2) (λ t. rw t w) (λ t. rw t (moved-wiped (view b) area w))
   wiped-by (grant v o h) e =
       let p = passed (worldOf (view b) area) c x v o h e in
       every-wiped (view b) area (book-sound b area good) (view-shape b) w h

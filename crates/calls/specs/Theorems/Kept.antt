@@ -7,7 +7,8 @@ use mathlib.Core.List.{List}
 use lib.ListN.{length}
 use lib.Dec.{leb}
 use borrow.Author.Tests.{eq-eqb, leb-true}
-use Rattle.rules.specs.Kernel.{Call, Edit, relabel, fix, requota, rewrite, Change, keep, alter, create, cut, link, Verdict, refuse, grant, call, tests, after, leaves, apply, lastNumber}
+use Rattle.rules.specs.Kernel.{Call, Edit, relabel, fix, requota, rewrite, Change, keep, alter, create, cut, link, Refusal, by, numberOf, Verdict, refused, grant, call, tests}
+use Rattle.rules.specs.Kernel.{after, leaves, apply, lastNumber}
 use Rattle.rules.specs.Fair.{Fair}
 use Rattle.rules.specs.Laws.Bools.{bool-cases, not-both}
 use Rattle.rules.specs.Laws.Grants.{grants-fair}
@@ -71,29 +72,29 @@ module _ (b area : List ℕ) (good : areasB b area ≡ true) (c : ℕ) (x : Call
       (enacted-sound (view b) area s z h n f k, k .world)
 
   -- a refusal after 2 says that the numbers have not ended
-  going : (k : ℕ) → call (worldOf (view b) area) c x ≡ refuse k → leb k 2 ≡ false → nextOf (view b) ≤ lastNumber
+  going : (f : Refusal) → call (worldOf (view b) area) c x ≡ refused f → leb (numberOf f) 2 ≡ false → nextOf (view b) ≤ lastNumber
   unfolding call worldOf
-  going k e n =
+  going f e n =
       bool-cases (leb (nextOf (view b)) lastNumber)
       (λ t. leb-true (nextOf (view b)) lastNumber t)
-      (λ t. let q : 2 ≡ k = (let r = sym (must-failed _ 2 (tests (worldOf (view b) area) c x) t) ∙ e in cc) in
-      not-both (leb k 2) (ap (λ (i : ℕ). leb i 2) (sym q)) n)
+      (λ t. let q : by 2 ≡ f = (let r = sym (must-failed _ 2 (tests (worldOf (view b) area) c x) t) ∙ e in cc) in
+      not-both (leb (numberOf f) 2) (ap (λ (i : Refusal). leb (numberOf i) 2) (sym q)) n)
 
   -- stopped: nothing changed
-  left-stopped : (k : ℕ) → leb k 2 ≡ true → LeftBy b area (refuse k)
+  left-stopped : (f : Refusal) → leb (numberOf f) 2 ≡ true → LeftBy b area (refused f)
   unfolding bookLeft areaLeft leaves
-  left-stopped k q = record { sound = rw q (book-sound b area good); world = rw q; long = area-long b area good }
+  left-stopped f q = record { sound = rw q (book-sound b area good); world = rw q; long = area-long b area good }
 
   -- refused: the number moved on
-  left-refused : (k : ℕ) → call (worldOf (view b) area) c x ≡ refuse k → leb k 2 ≡ false → LeftBy b area (refuse k)
+  left-refused : (f : Refusal) → call (worldOf (view b) area) c x ≡ refused f → leb (numberOf f) 2 ≡ false → LeftBy b area (refused f)
   unfolding bookLeft areaLeft leaves enactView enactArea
-  left-refused k e q =
-      let (s, w) = enacted keep (going k e q) tt tt in
+  left-refused f e q =
+      let (s, w) = enacted keep (going f e q) tt tt in
       record { sound = rw q s; world = rw q w; long = area-long b area good }
 
   left-by : (v : Verdict) → call (worldOf (view b) area) c x ≡ v → LeftBy b area v
   unfolding bookLeft areaLeft leaves
-  left-by (refuse k) e = bool-cases (leb k 2) (left-stopped k) (left-refused k e)
+  left-by (refused f) e = bool-cases (leb (numberOf f) 2) (left-stopped f) (left-refused f e)
   left-by (grant v o h) e =
       let p = passed (worldOf (view b) area) c x v o h e in
       let n : nextOf (view b) ≤ lastNumber = omega (arith, leb-true ((worldOf (view b) area) .next) lastNumber (p .number), world-next (view b) area) in

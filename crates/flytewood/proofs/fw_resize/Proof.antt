@@ -5,18 +5,6 @@ use Rattle.flytewood.specs.Laws.{no-buffer}
 use Rattle.flytewood.proofs.fw_resize.Statement.{statement}
 use Rattle.flytewood.proofs.fw_resize.Tie as tie
 
-resize-requires : tie.Need-resize-requires
-resize-requires c κs = search needs
-
-spread-requires : tie.Need-spread-requires
-spread-requires c κs = search needs
-
-same-length : tie.Need-same-length
-same-length c = search needs
-
-same-length-2 : tie.Need-same-length-2
-same-length-2 c = search needs
-
 returns : tie.Need-returns
 returns c =
     no-buffer _ _ _ _ _ _ _ _ _ (c .spread .ensures .0) (c .spread .ensures .1) (c .before .before .before .before .before .before .resize .ensures)
@@ -24,4 +12,4 @@ returns c =
 
 pub fw-resize-spec : {M : Type 1} → statement M
 fw-resize-spec =
-    tie.close (tie.spec resize-requires spread-requires same-length same-length-2 returns)
+    tie.close (tie.spec (λ c κs. search needs) (λ c κs. search needs) (λ c. search needs) (λ c. search needs) returns)

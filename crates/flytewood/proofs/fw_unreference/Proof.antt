@@ -5,18 +5,6 @@ use Rattle.flytewood.specs.Laws.{no-buffer}
 use Rattle.flytewood.proofs.fw_unreference.Statement.{statement}
 use Rattle.flytewood.proofs.fw_unreference.Tie as tie
 
-unreference-requires : tie.Need-unreference-requires
-unreference-requires c κs = search needs
-
-spread-requires : tie.Need-spread-requires
-spread-requires c κs = search needs
-
-same-length : tie.Need-same-length
-same-length c = search needs
-
-same-length-2 : tie.Need-same-length-2
-same-length-2 c = search needs
-
 returns : tie.Need-returns
 returns c =
     no-buffer _ _ _ _ _ _ _ _ _ (c .spread .ensures .0) (c .spread .ensures .1) (c .before .before .before .before .before .before .unreference .ensures)
@@ -24,4 +12,4 @@ returns c =
 
 pub fw-unreference-spec : {M : Type 1} → statement M
 fw-unreference-spec =
-    tie.close (tie.spec unreference-requires spread-requires same-length same-length-2 returns)
+    tie.close (tie.spec (λ c κs. search needs) (λ c κs. search needs) (λ c. search needs) (λ c. search needs) returns)

@@ -4,34 +4,22 @@ use borrow.Author.Needs.{needs}
 use Rattle.grantday.proofs.morning.Statement.{statement}
 use Rattle.grantday.proofs.morning.Tie as tie
 
-start-requires : tie.Need-start-requires
-start-requires c κs = search needs
-
-grants-requires : tie.Need-grants-requires
-grants-requires c κs = search needs
-
-grows-requires : tie.Need-grows-requires
-grows-requires c κs = search needs
-
-same-length : tie.Need-same-length
-same-length c = search needs
-
-same-length-2 : tie.Need-same-length-2
-same-length-2 c = search needs
-
 returns : tie.Need-returns
 returns c =
+    let up8 = c .before .before .before .before .before .before .before .before in
+    let up16 = up8 .before .before .before .before .before .before .before .before in
+    let up24 = up16 .before .before .before .before .before .before .before .before in
     c .before .before .before .before .grows .ensures _
-    (c .before .before .before .before .before .before .before .before .before .before .before .grants .ensures _
+    (up8 .before .before .before .grants .ensures _
     (start-begins _ _ 100 _ _ _
-    (c .before .before .before .before .before .before .before .before .before .before .before .before .before .before .before .before .before .before .before .before .before .before .before .before .before .before .before .pre .0)
-    (c .before .before .before .before .before .before .before .before .before .before .before .before .before .before .before .before .before .before .before .before .before .before .before .before .before .before .before .pre .1)
+    (up24 .before .before .before .pre .0)
+    (up24 .before .before .before .pre .1)
     can-start
-    (c .before .before .before .before .before .before .before .before .before .before .before .before .before .before .before .before .before .before .start .ensures)
-    (c .before .before .before .before .before .before .before .before .before .before .before .before .before .before .before .before .slice-known3 .given)
-    (c .before .before .before .before .before .before .before .before .before .before .before .before .before .before .slice-known4 .given)))
+    (up16 .before .before .start .ensures)
+    (up16 .slice-known3 .given)
+    (up8 .before .before .before .before .before .before .slice-known4 .given)))
 
 pub morning-spec : {M : Type 1} → statement M
 morning-spec =
     tie.close
-    (tie.spec start-requires grants-requires grows-requires same-length same-length-2 returns)
+    (tie.spec (λ c κs. search needs) (λ c κs. search needs) (λ c κs. search needs) (λ c. search needs) (λ c. search needs) returns)

@@ -36,15 +36,4 @@ returns-2 c = search needs
 
 pub main-spec : {M : Type 1} → statement M
 main-spec =
-    tie.close
-    (tie.spec
-    Inv-loop
-    μ-loop
-    loop-holds
-    turn-requires
-    returns
-    add-index
-    sub-turns
-    loop-less
-    loop-again
-    returns-2)
+    tie.close (tie.spec Inv-loop μ-loop loop-holds turn-requires returns add-index sub-turns loop-less loop-again returns-2)

@@ -5,28 +5,16 @@ use Rattle.label_vectors.specs.Line.Laws.{answer-length, line-put}
 use Rattle.label_vectors.proofs.put_line.Statement.{statement}
 use Rattle.label_vectors.proofs.put_line.Tie as tie
 
-decimal-requires : tie.Need-decimal-requires
-decimal-requires c κs = search needs
-
-slice-aggregate-copy : tie.Need-slice-aggregate-copy
-slice-aggregate-copy c = search needs
-
 copy-requires : tie.Need-copy-requires
 copy-requires c κs = omega (arith, decimal-length 20 (c .before .before .before .before .before .before .before .before .args .index))
 
 put-answer-requires : tie.Need-put-answer-requires
 put-answer-requires c κs = (omega (arith, decimal-length 20 (c .before .before .before .before .before .before .before .before .before .before .before .before .args .index)), omega arith)
 
-slice-aggregate-copy-2 : tie.Need-slice-aggregate-copy-2
-slice-aggregate-copy-2 c = search needs
-
 copy-requires-2 : tie.Need-copy-requires-2
 copy-requires-2 c κs =
     let a = c .before .before .before .before .before .before .before .before .before .before .before .before .before .before .before .before .before .args in
     omega (arith, decimal-length 20 (a .index), answer-length (a .case .now))
-
-same-length : tie.Need-same-length
-same-length c = search needs
 
 returns : tie.Need-returns
 returns c =
@@ -40,11 +28,11 @@ pub put-line-spec : {M : Type 1} → statement M
 put-line-spec =
     tie.close
     (tie.spec
-    decimal-requires
-    slice-aggregate-copy
+    (λ c κs. search needs)
+    (λ c. search needs)
     copy-requires
     put-answer-requires
-    slice-aggregate-copy-2
+    (λ c. search needs)
     copy-requires-2
-    same-length
+    (λ c. search needs)
     returns)

@@ -5,44 +5,11 @@ use Rattle.label_vectors.specs.Line.Laws.{pair-full, pair-spelt}
 use Rattle.label_vectors.proofs.put_pair.Statement.{statement}
 use Rattle.label_vectors.proofs.put_pair.Tie as tie
 
-category-requires : tie.Need-category-requires
-category-requires c κs = search needs
-
-code-requires : tie.Need-code-requires
-code-requires c κs = search needs
-
-with-pair-requires : tie.Need-with-pair-requires
-with-pair-requires c κs = search needs
-
-slice-aggregate-copy : tie.Need-slice-aggregate-copy
-slice-aggregate-copy c = search needs
-
-copy-requires : tie.Need-copy-requires
-copy-requires c κs = search needs
-
-same-length : tie.Need-same-length
-same-length c = search needs
-
 returns : tie.Need-returns
 returns c =
     let a = c .before .before .before .before .before .before .before .before .before .before .before .args in
     let room = sym (c .before .before .before .before .before .before .before .with-pair .ensures .0) ∙ not-true _ (c .before .before .before .before .before .if1 .taken) in
     rw (pair-full (a .x) (a .word) room) (c .before .before .copy .ensures)
-
-slice-aggregate-into-bytes : tie.Need-slice-aggregate-into-bytes
-slice-aggregate-into-bytes c = search needs
-
-into-bytes-requires : tie.Need-into-bytes-requires
-into-bytes-requires c κs = search needs
-
-slice-aggregate-hex : tie.Need-slice-aggregate-hex
-slice-aggregate-hex c = search needs
-
-hex-requires : tie.Need-hex-requires
-hex-requires c κs = search needs
-
-same-length-2 : tie.Need-same-length-2
-same-length-2 c = search needs
 
 returns-2 : tie.Need-returns-2
 returns-2 c =
@@ -58,16 +25,16 @@ pub put-pair-spec : {M : Type 1} → statement M
 put-pair-spec =
     tie.close
     (tie.spec
-    category-requires
-    code-requires
-    with-pair-requires
-    slice-aggregate-copy
-    copy-requires
-    same-length
+    (λ c κs. search needs)
+    (λ c κs. search needs)
+    (λ c κs. search needs)
+    (λ c. search needs)
+    (λ c κs. search needs)
+    (λ c. search needs)
     returns
-    slice-aggregate-into-bytes
-    into-bytes-requires
-    slice-aggregate-hex
-    hex-requires
-    same-length-2
+    (λ c. search needs)
+    (λ c κs. search needs)
+    (λ c. search needs)
+    (λ c κs. search needs)
+    (λ c. search needs)
     returns-2)

@@ -7,7 +7,9 @@ use mathlib.Core.List.{List, []}
 use lib.Dec.{eqb}
 use lib.IntN.{pos, negsuc}
 use borrow.Author.Tests.{eqb-false}
-use Rattle.rules.specs.Kernel.{kindCode, isLive, Obj, World, nothing, relabel, fix, requota, rewrite, edit, Change, keep, alter, create, cut, link, kept, apply, Call, createCategory, setLabel, setClearance, createContainer, createSegment, createGate, createThread, unreference, linkSegment, fixQuota, moveQuota, read, write, resize, enterGate, look, grant, call, containerOf, segmentOf, gateOf, threadOf}
+use Rattle.rules.specs.Kernel.{kindCode, isLive, Obj, World, nothing, relabel, fix, requota, rewrite, edit, Change, keep, alter, create, cut, link, kept, apply, Call}
+use Rattle.rules.specs.Kernel.{createCategory, setLabel, setClearance, createContainer, createSegment, createGate, createThread, unreference, linkSegment, fixQuota}
+use Rattle.rules.specs.Kernel.{moveQuota, read, write, resize, enterGate, look, grant, call, containerOf, segmentOf, gateOf, threadOf}
 use Rattle.rules.specs.Written.{rewrites}
 use Rattle.rules.specs.Issued.{callNumber, creates}
 use Rattle.rules.specs.Laws.Bools.{not-both}

@@ -13,12 +13,16 @@ use Rattle.labels.specs.declared.Label.{Label}
 use Rattle.labels.specs.Core.{wellFormed, flows, hasRoom, withPair, labelOf, labelSize, wordCount, star, level3}
 use Rattle.labels.specs.Core.Bytes.{labelOf-length}
 use Rattle.labels.specs.Core.Fresh.{formed-wider, pair-length}
-use Rattle.rules.specs.Kernel.{kindCode, isLive, isThread, isContainer, hasClearance, Obj, World, relabel, fix, Change, keep, alter, create, cut, link, Call, createCategory, setLabel, setClearance, createContainer, createSegment, createGate, createThread, unreference, linkSegment, fixQuota, moveQuota, read, write, resize, enterGate, look, Condition, holds, allHold, flow, writing, Verdict, grant, must, opens, entry, fits, orDefault, make, move, access, containerOf, segmentOf, gateOf, threadOf, clearedAt, judge, useOf, spareOf, units, goodLabel, goodText, goodArguments, maxMask, maxLength, textSize, blockSize, maxBlock, segmentDefault, containerDefault}
+use Rattle.rules.specs.Kernel.{kindCode, isLive, isThread, isContainer, hasClearance, Obj, World, relabel, fix, Change, keep, alter, create, cut, link, Call, createCategory}
+use Rattle.rules.specs.Kernel.{setLabel, setClearance, createContainer, createSegment, createGate, createThread, unreference, linkSegment, fixQuota, moveQuota, read, write}
+use Rattle.rules.specs.Kernel.{resize, enterGate, look, Condition, holds, allHold, flow, writing, Verdict, grant, must, mustHold, opens, entry, fits, orDefault, make, move}
+use Rattle.rules.specs.Kernel.{access, containerOf, segmentOf, gateOf, threadOf, clearedAt, judge, useOf, spareOf, units, goodLabel, goodText, goodArguments, maxMask}
+use Rattle.rules.specs.Kernel.{maxLength, textSize, blockSize, maxBlock, segmentDefault, containerDefault}
 use Rattle.rules.specs.Sound.{Sound}
 use Rattle.rules.specs.Fair.{Whole, Fair}
 use Rattle.rules.specs.Laws.Bools.{and-l, and-r}
 use Rattle.rules.specs.Laws.Kinds.{thread-live, segment-live, container-live, thread-cleared}
-use Rattle.rules.specs.Laws.Must.{must-test, must-rest, same-change, all-head, all-tail, all-right}
+use Rattle.rules.specs.Laws.Must.{must-test, must-rest, hold-test, hold-rest, same-change, all-head, all-tail, all-right}
 use Rattle.rules.specs.Laws.Entries.{opens-container, entry-link}
 use Rattle.rules.specs.Laws.Usage.{use-segment, use-some}
 use Rattle.rules.specs.Laws.Masks.{or-twice, or-mask}
@@ -53,6 +57,9 @@ module _ (w : World) (s : Sound w) (c : ℕ) (k : isThread ((w .obj c) .kind) �
   pass : (p : Bool) (m : ℕ) (r : Verdict) → (p ≡ true → r ≡ grant v b h → Fair w h) → must p m r ≡ grant v b h → Fair w h
   pass p m r f e = f (must-test v b h p m r e) (must-rest v b h p m r e)
 
+  all : (qs : List Condition) (r : Verdict) → (allHold qs ≡ true → r ≡ grant v b h → Fair w h) → mustHold qs r ≡ grant v b h → Fair w h
+  all qs r f e = f (hold-test v b h qs r e) (hold-rest v b h qs r e)
+
   done : (u : ℕ) (i : List ℕ) (g : Change) → Fair w g → grant u i g ≡ grant v b h → Fair w h
   done u i g f e = same-change (Fair w) u v i b g h e f
 
@@ -80,7 +87,7 @@ module _ (w : World) (s : Sound w) (c : ℕ) (k : isThread ((w .obj c) .kind) �
       → (isContainer (x .kind) ≡ true → bitOr (x .mask) ((w .obj d) .mask) ≡ x .mask) → make w (w .obj c) d x more ≡ grant v b h → Fair w h
   unfolding make
   make-fair d x more i f e z m =
-      pass _ 5 _ (λ p. pass _ 7 _ (λ q. pass _ 8 _ (λ r. pass _ 13 _ (λ u.
+      pass _ 5 _ (λ p. all _ _ (λ q. pass _ 8 _ (λ r. pass _ 13 _ (λ u.
       let o = opens-container w (w .obj c) d p in
       done _ _ (create d x) (record {
         is-container = o;
@@ -118,7 +125,7 @@ module _ (w : World) (s : Sound w) (c : ℕ) (k : isThread ((w .obj c) .kind) �
   label-fair : (l : List ℕ) → goodArguments (w .next) (setLabel l) ≡ true → judge w (w .obj c) c (setLabel l) ≡ grant v b h → Fair w h
   unfolding judge goodArguments holds flow
   label-fair l g =
-      pass _ 7 _ (λ q.
+      all _ _ (λ q.
       done _ _ _ (relabel-fair (labelOf l) ((w .obj c) .clearance)
       (good-formed (w .next) true l g)
       (formed-wider (w .next) false ((w .obj c) .clearance) (s .labels c live .clearance cleared))
@@ -129,7 +136,7 @@ module _ (w : World) (s : Sound w) (c : ℕ) (k : isThread ((w .obj c) .kind) �
   clearance-fair : (x : List ℕ) → goodArguments (w .next) (setClearance x) ≡ true → judge w (w .obj c) c (setClearance x) ≡ grant v b h → Fair w h
   unfolding judge goodArguments holds flow
   clearance-fair x g =
-      pass _ 7 _ (λ q.
+      all _ _ (λ q.
       done _ _ _ (relabel-fair ((w .obj c) .label) (labelOf x)
       (formed-wider (w .next) true ((w .obj c) .label) own-formed)
       (good-formed (w .next) false x g)
@@ -141,7 +148,7 @@ module _ (w : World) (s : Sound w) (c : ℕ) (k : isThread ((w .obj c) .kind) �
       → judge w (w .obj c) c (enterGate d g lr cr lv out) ≡ grant v b h → Fair w h
   unfolding judge goodArguments holds flow
   enter-fair d g lr cr lv out a =
-      pass _ 5 _ (λ p. pass _ 6 _ (λ r. pass _ 7 _ (λ q.
+      pass _ 5 _ (λ p. pass _ 6 _ (λ r. all _ _ (λ q.
       let rest = and-r (goodLabel (w .next) true lr) (goodLabel (w .next) false cr && (goodLabel (w .next) true lv && eqb out textSize)) a in
       done _ _ _ (relabel-fair (labelOf lr) (labelOf cr)
       (good-formed (w .next) true lr (and-l (goodLabel (w .next) true lr) _ a))
@@ -203,7 +210,7 @@ module _ (w : World) (s : Sound w) (c : ℕ) (k : isThread ((w .obj c) .kind) �
   move-in-fair : (d o n : ℕ) → judge w (w .obj c) c (moveQuota d o (pos n)) ≡ grant v b h → Fair w h
   unfolding judge move
   move-in-fair d o n =
-      pass _ 5 _ (λ p. pass _ 6 _ (λ r. pass _ 7 _ (λ q. pass _ 9 _ (λ u. pass _ 13 _ (λ z.
+      pass _ 5 _ (λ p. pass _ 6 _ (λ r. all _ _ (λ q. pass _ 9 _ (λ u. pass _ 13 _ (λ z.
       let l = entry-link w (w .obj c) d o p in
       let i = s .tree .held d o l in
       let room = fits-room d n (container-live ((w .obj d) .kind) (s .tree .holder d o l)) z in
@@ -222,7 +229,7 @@ module _ (w : World) (s : Sound w) (c : ℕ) (k : isThread ((w .obj c) .kind) �
   move-out-fair : (d o n : ℕ) → judge w (w .obj c) c (moveQuota d o (negsuc n)) ≡ grant v b h → Fair w h
   unfolding judge move
   move-out-fair d o n =
-      pass _ 5 _ (λ p. pass _ 6 _ (λ r. pass _ 7 _ (λ q. pass _ 9 _ (λ u. pass _ 13 _ (λ z.
+      pass _ 5 _ (λ p. pass _ 6 _ (λ r. all _ _ (λ q. pass _ 9 _ (λ u. pass _ 13 _ (λ z.
       let l = entry-link w (w .obj c) d o p in
       let room = s .uses d (container-live ((w .obj d) .kind) (s .tree .holder d o l)) in
       let own = fits-room o (suc n) (s .tree .held d o l) z in
@@ -240,7 +247,7 @@ module _ (w : World) (s : Sound w) (c : ℕ) (k : isThread ((w .obj c) .kind) �
   link-fair : (d1 o d : ℕ) → judge w (w .obj c) c (linkSegment d1 o d) ≡ grant v b h → Fair w h
   unfolding judge
   link-fair d1 o d =
-      pass _ 5 _ (λ p. pass _ 6 _ (λ r. pass _ 7 _ (λ q. pass _ 9 _ (λ f. pass _ 10 _ (λ n. pass _ 13 _ (λ z.
+      pass _ 5 _ (λ p. pass _ 6 _ (λ r. all _ _ (λ q. pass _ 9 _ (λ f. pass _ 10 _ (λ n. pass _ 13 _ (λ z.
       let i = opens-container w (w .obj c) d (and-r (entry w (w .obj c) d1 o) (opens w (w .obj c) d) p) in
       done _ _ (link d o) (record {
         is-container = i;
@@ -254,7 +261,7 @@ module _ (w : World) (s : Sound w) (c : ℕ) (k : isThread ((w .obj c) .kind) �
       → judge w (w .obj c) c (write d o j f n a) ≡ grant v b h → Fair w h
   unfolding judge access goodArguments
   write-fair d o j f n a g =
-      pass _ 5 _ (λ p. pass _ 6 _ (λ r. pass _ 7 _ (λ q. pass _ 11 _ (λ z.
+      pass _ 5 _ (λ p. pass _ 6 _ (λ r. all _ _ (λ q. pass _ 11 _ (λ z.
       let i = segment-live ((w .obj o) .kind) r in
       let size = eqb-true (length a) n (and-r (leb (f + n) blockSize) _ (and-r (leb j maxBlock) _ g)) in
       let within = leb-true (blockSize * j + f + n) (length ((w .obj o) .bytes)) z in
@@ -266,7 +273,7 @@ module _ (w : World) (s : Sound w) (c : ℕ) (k : isThread ((w .obj c) .kind) �
   resize-fair : (d o n : ℕ) → goodArguments (w .next) (resize d o n) ≡ true → judge w (w .obj c) c (resize d o n) ≡ grant v b h → Fair w h
   unfolding judge access goodArguments
   resize-fair d o n g =
-      pass _ 5 _ (λ p. pass _ 6 _ (λ r. pass _ 7 _ (λ q. pass _ 13 _ (λ z.
+      pass _ 5 _ (λ p. pass _ 6 _ (λ r. all _ _ (λ q. pass _ 13 _ (λ z.
       let same = resized-length n ((w .obj o) .bytes) in
       done _ _ _ (record { is-segment = r; within = rw same (leb-true (units n) ((w .obj o) .quota) z); short = rw same (leb-true n maxLength g) })))))
 
@@ -278,12 +285,12 @@ module _ (w : World) (s : Sound w) (c : ℕ) (k : isThread ((w .obj c) .kind) �
   judge-fair (createSegment d l x q) g = segment-fair d l x q g
   judge-fair (createGate d l y e z x) g = gate-fair d l y e z x g
   judge-fair (createThread d l y x) g = thread-fair d l y x g
-  judge-fair (unreference d o) g = unfold judge in (pass _ 5 _ (λ p. pass _ 7 _ (λ q. done _ _ (cut d o) (entry-link w (w .obj c) d o p))))
+  judge-fair (unreference d o) g = unfold judge in (pass _ 5 _ (λ p. all _ _ (λ q. done _ _ (cut d o) (entry-link w (w .obj c) d o p))))
   judge-fair (linkSegment d1 o d) g = link-fair d1 o d
-  judge-fair (fixQuota d o) g = unfold judge in (pass _ 5 _ (λ p. pass _ 6 _ (λ r. pass _ 7 _ (λ q. done _ _ (alter o fix) r))))
+  judge-fair (fixQuota d o) g = unfold judge in (pass _ 5 _ (λ p. pass _ 6 _ (λ r. all _ _ (λ q. done _ _ (alter o fix) r))))
   judge-fair (moveQuota d o (pos n)) g = move-in-fair d o n
   judge-fair (moveQuota d o (negsuc n)) g = move-out-fair d o n
-  judge-fair (read d o j f n) g = unfold judge access in (pass _ 5 _ (λ p. pass _ 6 _ (λ r. pass _ 7 _ (λ q. pass _ 11 _ (λ z. done _ _ keep tt)))))
+  judge-fair (read d o j f n) g = unfold judge access in (pass _ 5 _ (λ p. pass _ 6 _ (λ r. all _ _ (λ q. pass _ 11 _ (λ z. done _ _ keep tt)))))
   judge-fair (write d o j f n a) g = write-fair d o j f n a g
   judge-fair (resize d o n) g = resize-fair d o n g
   judge-fair (enterGate d o lr cr lv out) g = enter-fair d o lr cr lv out g

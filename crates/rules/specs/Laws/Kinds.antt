@@ -5,7 +5,8 @@ use mathlib.Core.Bool.{true, false}
 use mathlib.Core.Path.{_≡_, refl, sym, _∙_, ap, subst}
 use lib.Dec.{eqb}
 use borrow.Author.Tests.{eqb-true, ne-eqb}
-use Rattle.rules.specs.Kernel.{threadCode, gateCode, segmentCode, containerCode, maxCode, Kind, absent, thread, gate, segment, container, kindCode, kindFrom, isLive, isThread, isGate, isSegment, isContainer, hasClearance, nothing}
+use Rattle.rules.specs.Kernel.{threadCode, gateCode, segmentCode, containerCode, maxCode, Kind, absent, thread, gate, segment, container, kindCode, kindFrom, isLive, isThread, isGate}
+use Rattle.rules.specs.Kernel.{isSegment, isContainer, hasClearance, nothing}
 use Rattle.rules.specs.Laws.Bools.{or-cases}
 
 -- A kind is that of its code, and so of each code there is one kind.

@@ -5,21 +5,38 @@ use mathlib.Core.Path.{_≡_, refl, subst}
 use mathlib.Core.List.{List, [], _∷_, _++_}
 use lib.Dec.{leb}
 use native.Mathlib.Omega.{arith}
-use Rattle.rules.specs.Kernel.{World, Call, Change, Verdict, refuse, grant, must, tests, call, judge, isThread, goodArguments, lastNumber, Condition, holds, allHold}
+use Rattle.rules.specs.Kernel.{World, Call, Change, Refusal, by, numberOf, Verdict, refused, grant, unless, must, whyNot, mustHold, tests, call, judge, isThread}
+use Rattle.rules.specs.Kernel.{goodArguments, lastNumber, Condition, holds, allHold}
 
-pub refuse-no-grant : (k v : ℕ) (b : List ℕ) (h : Change) → refuse k ≡ grant v b h → ⊥
-refuse-no-grant k v b h e = let z : _≡_ {A = ℕ} 0 1 = cc in omega arith
+pub refuse-no-grant : (f : Refusal) (v : ℕ) (b : List ℕ) (h : Change) → refused f ≡ grant v b h → ⊥
+refuse-no-grant f v b h e = let z : _≡_ {A = ℕ} 0 1 = cc in omega arith
 
 module _ (v : ℕ) (b : List ℕ) (h : Change) where
+  unless-test : (p : Bool) (f : Refusal) (r : Verdict) → unless p f r ≡ grant v b h → p ≡ true
+  unfolding unless
+  unless-test true f r e = refl
+  unless-test false f r e = absurd (refuse-no-grant f v b h e)
+
+  unless-rest : (p : Bool) (f : Refusal) (r : Verdict) → unless p f r ≡ grant v b h → r ≡ grant v b h
+  unfolding unless
+  unless-rest true f r e = e
+  unless-rest false f r e = absurd (refuse-no-grant f v b h e)
+
   pub must-test : (p : Bool) (k : ℕ) (r : Verdict) → must p k r ≡ grant v b h → p ≡ true
   unfolding must
-  must-test true k r e = refl
-  must-test false k r e = absurd (refuse-no-grant k v b h e)
+  must-test p k r e = unless-test p (by k) r e
 
   pub must-rest : (p : Bool) (k : ℕ) (r : Verdict) → must p k r ≡ grant v b h → r ≡ grant v b h
   unfolding must
-  must-rest true k r e = e
-  must-rest false k r e = absurd (refuse-no-grant k v b h e)
+  must-rest p k r e = unless-rest p (by k) r e
+
+  pub hold-test : (qs : List Condition) (r : Verdict) → mustHold qs r ≡ grant v b h → allHold qs ≡ true
+  unfolding mustHold
+  hold-test qs r e = unless-test (allHold qs) (whyNot qs) r e
+
+  pub hold-rest : (qs : List Condition) (r : Verdict) → mustHold qs r ≡ grant v b h → r ≡ grant v b h
+  unfolding mustHold
+  hold-rest qs r e = unless-rest (allHold qs) (whyNot qs) r e
 
 -- two grants that are the same have the same change
 pub same-change : (P : Change → Type 0) (v v′ : ℕ) (b b′ : List ℕ) (g h : Change) → grant v b g ≡ grant v′ b′ h → P g → P h
@@ -43,6 +60,11 @@ passed w c x v b h e =
       arguments = must-test v b h (goodArguments (w .next) x) 4 (judge w (w .obj c) c x) e3;
       judged = must-rest v b h (goodArguments (w .next) x) 4 (judge w (w .obj c) c x) e3;
     }
+
+-- a condition that fails is answered by 7
+pub why-seven : (qs : List Condition) → numberOf (whyNot qs) ≡ 7
+unfolding whyNot
+why-seven qs = refl
 
 -- conditions that all hold: the first, and the others
 pub all-head : (q : Condition) (qs : List Condition) → allHold (q ∷ qs) ≡ true → holds q ≡ true

@@ -7,8 +7,11 @@ use lib.ListN.{take, drop}
 use lib.Bits.{bitOr}
 use lib.IntN.{pos, negsuc}
 use Rattle.labels.specs.Core.{withPair, labelOf, star}
-use Rattle.rules.specs.Kernel.{isSegment, entry, World, Obj, relabel, fix, requota, rewrite, Change, keep, alter, create, cut, link, Call, createCategory, setLabel, setClearance, createContainer, createSegment, createGate, createThread, unreference, linkSegment, fixQuota, moveQuota, read, write, resize, enterGate, look, Condition, Verdict, grant, must, make, move, access, judge, call, containerOf, segmentOf, gateOf, threadOf, clearedAt, lookBytes, overwrite, resized, orDefault, segmentDefault, containerDefault, blockSize}
-use Rattle.rules.specs.Laws.Must.{must-test, must-rest, passed}
+use Rattle.rules.specs.Kernel.{isSegment, entry, World, Obj, relabel, fix, requota, rewrite, Change, keep, alter, create, cut, link, Call, createCategory, setLabel}
+use Rattle.rules.specs.Kernel.{setClearance, createContainer, createSegment, createGate, createThread, unreference, linkSegment, fixQuota, moveQuota, read, write, resize}
+use Rattle.rules.specs.Kernel.{enterGate, look, Condition, Verdict, grant, must, mustHold, make, move, access, judge, call, containerOf, segmentOf, gateOf, threadOf}
+use Rattle.rules.specs.Kernel.{clearedAt, lookBytes, overwrite, resized, orDefault, segmentDefault, containerDefault, blockSize}
+use Rattle.rules.specs.Laws.Must.{must-test, must-rest, hold-rest, passed}
 
 -- what is granted after the last test
 unfoldable pub outcome : World → Obj → ℕ → Call → Verdict
@@ -36,17 +39,20 @@ module _ (w : World) (t : Obj) (c v : ℕ) (b : List ℕ) (h : Change) where
   past : (p : Bool) (k : ℕ) (r : Verdict) (z : Verdict) → (r ≡ grant v b h → z ≡ grant v b h) → must p k r ≡ grant v b h → z ≡ grant v b h
   past p k r z f e = f (must-rest v b h p k r e)
 
+  all : (qs : List Condition) (r : Verdict) (z : Verdict) → (r ≡ grant v b h → z ≡ grant v b h) → mustHold qs r ≡ grant v b h → z ≡ grant v b h
+  all qs r z f e = f (hold-rest v b h qs r e)
+
   make-outcome : (d : ℕ) (x : Obj) (more : List Condition) → make w t d x more ≡ grant v b h → grant (w .next) [] (create d x) ≡ grant v b h
   unfolding make
-  make-outcome d x more = past _ 5 _ _ (past _ 7 _ _ (past _ 8 _ _ (past _ 13 _ _ (λ e. e))))
+  make-outcome d x more = past _ 5 _ _ (all _ _ _ (past _ 8 _ _ (past _ 13 _ _ (λ e. e))))
 
   move-outcome : (d o : ℕ) (more : List Condition) (r : Verdict) → move w t d o more r ≡ grant v b h → r ≡ grant v b h
   unfolding move
-  move-outcome d o more r = past _ 5 _ _ (past _ 6 _ _ (past _ 7 _ _ (past _ 9 _ _ (λ e. e))))
+  move-outcome d o more r = past _ 5 _ _ (past _ 6 _ _ (all _ _ _ (past _ 9 _ _ (λ e. e))))
 
   pub access-outcome : (d s : ℕ) (more : List Condition) (r : Verdict) → access w t d s more r ≡ grant v b h → r ≡ grant v b h
   unfolding access
-  access-outcome d s more r = past _ 5 _ _ (past _ 6 _ _ (past _ 7 _ _ (λ e. e)))
+  access-outcome d s more r = past _ 5 _ _ (past _ 6 _ _ (all _ _ _ (λ e. e)))
 
   pub access-segment : (d s : ℕ) (more : List Condition) (r : Verdict) → access w t d s more r ≡ grant v b h → isSegment ((w .obj s) .kind) ≡ true
   unfolding access
@@ -56,21 +62,21 @@ module _ (w : World) (t : Obj) (c v : ℕ) (b : List ℕ) (h : Change) where
   pub judge-outcome : (x : Call) → judge w t c x ≡ grant v b h → outcome w t c x ≡ grant v b h
   unfolding judge outcome
   judge-outcome createCategory = past _ 12 _ _ (λ e. e)
-  judge-outcome (setLabel l) = past _ 7 _ _ (λ e. e)
-  judge-outcome (setClearance x) = past _ 7 _ _ (λ e. e)
+  judge-outcome (setLabel l) = all _ _ _ (λ e. e)
+  judge-outcome (setClearance x) = all _ _ _ (λ e. e)
   judge-outcome (createContainer d l s m q) = make-outcome d _ _
   judge-outcome (createSegment d l s q) = make-outcome d _ _
   judge-outcome (createGate d l k e x s) = make-outcome d _ _
   judge-outcome (createThread d l k s) = make-outcome d _ _
-  judge-outcome (unreference d o) = past _ 5 _ _ (past _ 7 _ _ (λ e. e))
-  judge-outcome (linkSegment d1 o d) = past _ 5 _ _ (past _ 6 _ _ (past _ 7 _ _ (past _ 9 _ _ (past _ 10 _ _ (past _ 13 _ _ (λ e. e))))))
-  judge-outcome (fixQuota d o) = past _ 5 _ _ (past _ 6 _ _ (past _ 7 _ _ (λ e. e)))
+  judge-outcome (unreference d o) = past _ 5 _ _ (all _ _ _ (λ e. e))
+  judge-outcome (linkSegment d1 o d) = past _ 5 _ _ (past _ 6 _ _ (all _ _ _ (past _ 9 _ _ (past _ 10 _ _ (past _ 13 _ _ (λ e. e))))))
+  judge-outcome (fixQuota d o) = past _ 5 _ _ (past _ 6 _ _ (all _ _ _ (λ e. e)))
   judge-outcome (moveQuota d o (pos n)) = λ e. past _ 13 _ _ (λ f. f) (move-outcome d o _ _ e)
   judge-outcome (moveQuota d o (negsuc n)) = λ e. past _ 13 _ _ (λ f. f) (move-outcome d o _ _ e)
   judge-outcome (read d s k f n) = λ e. past _ 11 _ _ (λ g. g) (access-outcome d s _ _ e)
   judge-outcome (write d s k f n y) = λ e. past _ 11 _ _ (λ g. g) (access-outcome d s _ _ e)
   judge-outcome (resize d s n) = λ e. past _ 13 _ _ (λ g. g) (access-outcome d s _ _ e)
-  judge-outcome (enterGate d g lr cr lv out) = past _ 5 _ _ (past _ 6 _ _ (past _ 7 _ _ (λ e. e)))
+  judge-outcome (enterGate d g lr cr lv out) = past _ 5 _ _ (past _ 6 _ _ (all _ _ _ (λ e. e)))
   judge-outcome (look d o out) = past _ 5 _ _ (λ e. e)
 
 -- a granted call has that outcome

@@ -11,7 +11,8 @@ use Rattle.labels.specs.Core.Formed.{plain-formed}
 use Rattle.labels.specs.Core.Fresh.{formed-fresh}
 use Rattle.labels.specs.Core.Compare.{flows-means}
 use Rattle.quotas.specs.Sum.{when, sum-only, when-true, when-false}
-use Rattle.rules.specs.Kernel.{kindCode, isLive, isThread, isSegment, isContainer, hasClearance, Obj, nothing, charged, useOf, units, put, containerOf, threadOf, start, startable, lastNumber, rootQuota, textSize}
+use Rattle.rules.specs.Kernel.{kindCode, isLive, isThread, isSegment, isContainer, hasClearance, Obj, nothing, charged, useOf, units, put, containerOf, threadOf, start}
+use Rattle.rules.specs.Kernel.{startable, lastNumber, rootQuota, textSize}
 use Rattle.rules.specs.Sound.{InRange, Formed, Tree, Sound}
 use Rattle.rules.specs.Fair.{Whole}
 use Rattle.rules.specs.Laws.Bools.{and-l, and-r, not-both, not-i}

@@ -6,7 +6,8 @@ use mathlib.Core.Path.{_≡_, refl, sym, _∙_, ap}
 use lib.Dec.{eqb}
 use borrow.Author.Tests.{eqb-true, eq-eqb, ne-eqb}
 use Rattle.quotas.specs.Any.{any-of}
-use Rattle.rules.specs.Kernel.{World, Obj, nothing, isLive, Edit, relabel, fix, requota, rewrite, edit, Change, keep, alter, create, cut, link, put, stays, kept, apply, Call, beginning, next, after}
+use Rattle.rules.specs.Kernel.{World, Obj, nothing, isLive, Edit, relabel, fix, requota, rewrite, edit, Change, keep, alter, create, cut, link, put, stays, kept, apply, Call}
+use Rattle.rules.specs.Kernel.{beginning, next, after}
 use Rattle.rules.specs.Sound.{Sound}
 use Rattle.rules.specs.Ledger.{Line, lineOf, grantedBy, granted, chargeBy, charge}
 use Rattle.rules.specs.Laws.Bools.{not-both, bool-cases, then-l, or-i-r}

@@ -7,7 +7,8 @@ use mathlib.Core.List.{List, []}
 use lib.ListN.{length}
 use lib.Dec.{eqb}
 use Rattle.quotas.specs.Sum.{Σ, when, sum-cong, sum-mono, sum-change, sum-none, sum-term, when-true, when-false, when-le, when-cong}
-use Rattle.rules.specs.Kernel.{isLive, isSegment, isContainer, hasClearance, Obj, nothing, World, units, charged, useOf, Edit, requota, rewrite, edit, keep, alter, create, cut, link, put, linkIn, below, stays, kept, apply}
+use Rattle.rules.specs.Kernel.{isLive, isSegment, isContainer, hasClearance, Obj, nothing, World, units, charged, useOf, Edit, requota, rewrite, edit, keep, alter, create}
+use Rattle.rules.specs.Kernel.{cut, link, put, linkIn, below, stays, kept, apply}
 use Rattle.rules.specs.Sound.{Sound}
 use Rattle.rules.specs.Fair.{Moved, Linked, Made}
 use Rattle.rules.specs.Laws.Bools.{not-i, not-both, bool-cases, then-l}

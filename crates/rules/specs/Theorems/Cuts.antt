@@ -13,7 +13,8 @@ use Rattle.rules.specs.Laws.Bools.{and-l, and-r, and-i, not-i, not-both,
 use Rattle.rules.specs.Laws.Kinds.{container-live, nothing-dead}
 use Rattle.rules.specs.Laws.Must.{must-test, passed}
 use Rattle.rules.specs.Laws.Entries.{entry-link}
-use Rattle.rules.specs.Laws.Below.{below-self, below-down, below-up, holder-not-below, root-not-below, container-free, stays-linked, stays-not-below, stays-not-cut, stays-i, root-kept, kept-cases, stays-kept}
+use Rattle.rules.specs.Laws.Below.{below-self, below-down, below-up, holder-not-below, root-not-below, container-free, stays-linked, stays-not-below, stays-not-cut, stays-i}
+use Rattle.rules.specs.Laws.Below.{root-kept, kept-cases, stays-kept}
 use Rattle.rules.specs.Laws.Effects.{cut-at}
 use Rattle.rules.specs.Laws.Outcome.{outcome, call-outcome}
 use Rattle.rules.specs.Theorems.Refusals.{granted}

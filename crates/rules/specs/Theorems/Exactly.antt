@@ -7,26 +7,41 @@ use mathlib.Core.List.{List}
 use lib.Dec.{leb}
 use lib.IntN.{pos, negsuc}
 use borrow.Author.Tests.{le-leb}
-use Rattle.rules.specs.Kernel.{World, Obj, isContainer, isSegment, units, spareOf, Verdict, grant, must, Change, Call, createCategory, setLabel, setClearance, createContainer, createSegment, createGate, createThread, unreference, linkSegment, fixQuota, moveQuota, read, write, resize, enterGate, look, call, tests, judge, make, move, access, opens, entry, fits, containerOf, segmentOf, gateOf, threadOf, answerOf, Condition, History, worldAfter}
+use Rattle.rules.specs.Kernel.{World, Obj, isContainer, isSegment, units, spareOf, Refusal, by, numberOf, Verdict, grant, unless, must, whyNot, mustHold, Change, Call}
+use Rattle.rules.specs.Kernel.{createCategory, setLabel, setClearance, createContainer, createSegment, createGate, createThread, unreference, linkSegment, fixQuota}
+use Rattle.rules.specs.Kernel.{moveQuota, read, write, resize, enterGate, look, call, tests, judge, make, move, access, opens, entry, fits, containerOf, segmentOf, gateOf}
+use Rattle.rules.specs.Kernel.{threadOf, answerOf, Condition, allHold, History, worldAfter}
 use Rattle.rules.specs.Histories.{WellStarted}
 use Rattle.rules.specs.Ledger.{Line, made, tied, movedIn, movedBack, lineIf, takesUnits, askedOf, unitsAsked, spends, draws, needs, refusedEarlier, reckoned}
 use Rattle.rules.specs.Laws.Bools.{and-r, and-i, not-both}
+use Rattle.rules.specs.Laws.Must.{why-seven}
 use Rattle.rules.specs.Laws.Entries.{opens-container, entry-opens}
 use Rattle.rules.specs.Theorems.Reckoned.{reckoned-is-spare}
 
 -- ---- the tests before that of spare
 
 -- a test numbered 1 to 12 that did not refuse was passed, and the rest gives the answer
+past-unless : (P : ℕ → Type 0) (p : Bool) (g : Refusal) (r : Verdict) → 1 ≤ numberOf g → numberOf g ≤ 12
+    → (p ≡ true → refusedEarlier (answerOf r) ≡ false → P (answerOf r)) → refusedEarlier (answerOf (unless p g r)) ≡ false → P (answerOf (unless p g r))
+unfolding unless refusedEarlier answerOf
+past-unless P true g r l h f e = f refl e
+past-unless P false g r l h f e =
+    let n = numberOf g in
+    absurd (not-both (leb 1 n && leb n 12) (and-i (leb 1 n) (leb n 12) (le-leb 1 n l) (le-leb n 12 h)) e)
+
 past : (P : ℕ → Type 0) (p : Bool) (k : ℕ) (r : Verdict) → k ≤ 11
     → (p ≡ true → refusedEarlier (answerOf r) ≡ false → P (answerOf r)) → refusedEarlier (answerOf (must p (suc k) r)) ≡ false → P (answerOf (must p (suc k) r))
-unfolding must refusedEarlier answerOf
-past P true k r h f e = f refl e
-past P false k r h f e =
-    absurd (not-both (leb 1 (suc k) && leb (suc k) 12) (and-i (leb 1 (suc k)) (leb (suc k) 12) (le-leb 1 (suc k) (omega arith)) (le-leb (suc k) 12 (omega arith))) e)
+unfolding must
+past P p k r h = past-unless P p (by (suc k)) r (omega arith) (omega arith)
+
+past-hold : (P : ℕ → Type 0) (qs : List Condition) (r : Verdict)
+    → (allHold qs ≡ true → refusedEarlier (answerOf r) ≡ false → P (answerOf r)) → refusedEarlier (answerOf (mustHold qs r)) ≡ false → P (answerOf (mustHold qs r))
+unfolding mustHold
+past-hold P qs r = let s = why-seven qs in past-unless P (allHold qs) (whyNot qs) r (omega arith) (omega arith)
 
 -- the test of spare decides between 0 and 13
 decides : (p : Bool) (v : ℕ) (b : List ℕ) (h : Change) → answerOf (must p 13 (grant v b h)) ≡ cond p 0 13
-unfolding must answerOf
+unfolding unless must answerOf
 decides true v b h = refl
 decides false v b h = refl
 
@@ -46,7 +61,7 @@ module _ (w : World) (c : ℕ) where
       → refusedEarlier (answerOf (move w (w .obj c) d o more r)) ≡ false → P (answerOf (move w (w .obj c) d o more r))
   unfolding move
   past-move P d o more r f =
-      past P _ 4 _ (omega arith) λ p. past P _ 5 _ (omega arith) λ k. past P _ 6 _ (omega arith) λ q. past P _ 8 _ (omega arith) λ n z.
+      past P _ 4 _ (omega arith) λ p. past P _ 5 _ (omega arith) λ k. past-hold P _ _ λ q. past P _ 8 _ (omega arith) λ n z.
       f (opens-container w (w .obj c) d (entry-opens w (w .obj c) d o p))
 
   decided-make : (d n : ℕ) (x : Obj) (more : List Condition) → refusedEarlier (answerOf (make w (w .obj c) d x more)) ≡ false
@@ -54,7 +69,7 @@ module _ (w : World) (c : ℕ) where
   unfolding make fits askedOf unitsAsked
   decided-make d n x more =
       let P : ℕ → Type 0 = Decided w (made d n (x .quota)) in
-      past P _ 4 _ (omega arith) λ p. past P _ 6 _ (omega arith) λ q. past P _ 7 _ (omega arith) λ m z.
+      past P _ 4 _ (omega arith) λ p. past-hold P _ _ λ q. past P _ 7 _ (omega arith) λ m z.
       record { is-container = λ s. opens-container w (w .obj c) d p; answer = decides _ _ _ _ }
 
   decided-judge : (x : Call) → spends w x ≡ true → refusedEarlier (answerOf (judge w (w .obj c) c x)) ≡ false
@@ -70,7 +85,7 @@ module _ (w : World) (c : ℕ) where
   decided-judge (unreference d o) s = absurd (false≢true s)
   decided-judge (linkSegment d1 o d) s =
       let P : ℕ → Type 0 = Decided w (tied d o) in
-      past P _ 4 _ (omega arith) λ p. past P _ 5 _ (omega arith) λ k. past P _ 6 _ (omega arith) λ q. past P _ 8 _ (omega arith) λ f.
+      past P _ 4 _ (omega arith) λ p. past P _ 5 _ (omega arith) λ k. past-hold P _ _ λ q. past P _ 8 _ (omega arith) λ f.
       past P _ 9 _ (omega arith) λ n z.
       record { is-container = λ e. opens-container w (w .obj c) d (and-r (entry w (w .obj c) d1 o) (opens w (w .obj c) d) p); answer = decides _ _ _ _ }
   decided-judge (fixQuota d o) s = absurd (false≢true s)
@@ -106,7 +121,7 @@ module _ (w : World) (c : ℕ) where
   unfolding judge access
   decided-resize d s n =
       let P : ℕ → Type 0 = λ a. (isSegment ((w .obj s) .kind) ≡ true) × (a ≡ cond (leb (units n) ((w .obj s) .quota)) 0 13) in
-      past-judge P (resize d s n) (past P _ 4 _ (omega arith) λ p. past P _ 5 _ (omega arith) λ k. past P _ 6 _ (omega arith) λ q z. (k, decides _ _ _ _))
+      past-judge P (resize d s n) (past P _ 4 _ (omega arith) λ p. past P _ 5 _ (omega arith) λ k. past-hold P _ _ λ q z. (k, decides _ _ _ _))
 
   -- A resize that fails no check numbered 1 to 12 is granted if what the new length uses is within the segment's quota, and else answers 13.
   pub resize-by-quota : (d s n : ℕ) → refusedEarlier (answerOf (call w c (resize d s n))) ≡ false

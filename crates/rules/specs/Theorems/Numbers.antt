@@ -12,7 +12,9 @@ use lib.ListN.{length, getD}
 use lib.Dec.{eqb}
 use lib.IntN.{pos, negsuc}
 use borrow.Author.Tests.{eqb-true, eq-eqb}
-use Rattle.rules.specs.Kernel.{isLive, Obj, World, Change, apply, Call, createCategory, setLabel, setClearance, createContainer, createSegment, createGate, createThread, unreference, linkSegment, fixQuota, moveQuota, read, write, resize, enterGate, look, grant, call, answerOf, valueOf, after, History, beginning, next, worldAfter}
+use Rattle.rules.specs.Kernel.{isLive, Obj, World, Change, apply, Call, createCategory, setLabel, setClearance, createContainer, createSegment, createGate, createThread}
+use Rattle.rules.specs.Kernel.{unreference, linkSegment, fixQuota, moveQuota, read, write, resize, enterGate, look, grant, call, answerOf, valueOf, after, History, beginning}
+use Rattle.rules.specs.Kernel.{next, worldAfter}
 use Rattle.rules.specs.Issued.{callNumber, creates, issues, liveBelow, issued, Listed}
 use Rattle.rules.specs.Laws.Bools.{and-l, and-r, and-i, or-i-r}
 use Rattle.rules.specs.Histories.{firstWorld, WellStarted}

@@ -11,7 +11,9 @@ use borrow.Author.Tests.{leb-true, eqb-true}
 use Rattle.labels.specs.declared.Label.{Label}
 use Rattle.labels.specs.Core.{mayRead, wordCount, wordsBytes}
 use Rattle.labels.specs.Core.Bytes.{wordsBytes-length}
-use Rattle.rules.specs.Kernel.{isLive, isThread, isGate, Obj, World, Call, createCategory, setLabel, setClearance, createContainer, createSegment, createGate, createThread, unreference, linkSegment, fixQuota, moveQuota, read, write, resize, enterGate, look, Change, Verdict, refuse, grant, opens, entry, lookBytes, textSize, lookSize, judge, call, answerOf, outputOf, blockSize}
+use Rattle.rules.specs.Kernel.{isLive, isThread, isGate, Obj, World, Call, createCategory, setLabel, setClearance, createContainer, createSegment, createGate, createThread}
+use Rattle.rules.specs.Kernel.{unreference, linkSegment, fixQuota, moveQuota, read, write, resize, enterGate, look, Change, Verdict, refused, grant, opens, entry, lookBytes}
+use Rattle.rules.specs.Kernel.{textSize, lookSize, judge, call, answerOf, outputOf, blockSize}
 use Rattle.rules.specs.Sound.{InRange, Sound}
 use Rattle.rules.specs.Answers.{outputSize}
 use Rattle.rules.specs.Laws.Bools.{and-l, and-r, or-cases}
@@ -116,5 +118,5 @@ unfolding outputOf
 no-output w c x z = go (call w c x) refl
   where
     go : (r : Verdict) → call w c x ≡ r → outputOf r ≡ []
-    go (refuse k) e = refl
+    go (refused f) e = refl
     go (grant v b h) e = sym (output-is w c x v b h e) ∙ no-outcome w c x z

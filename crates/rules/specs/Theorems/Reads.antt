@@ -9,7 +9,9 @@ use lib.ListN.{length, getD, take, drop, length-drop}
 use lib.Seq.{length-take-le, getD-take, getD-drop}
 use lib.Dec.{eqb, leb}
 use borrow.Author.Tests.{eqb-true, eqb-false, eq-eqb, leb-true}
-use Rattle.rules.specs.Kernel.{isLive, Obj, World, rewrite, edit, Change, keep, alter, apply, Call, createCategory, setLabel, setClearance, createContainer, createSegment, createGate, createThread, unreference, linkSegment, fixQuota, moveQuota, read, write, resize, enterGate, look, grant, goodArguments, judge, call, answerOf, valueOf, outputOf, after, overwrite, resized, blockSize, maxBlock, History, beginning, next, worldAfter}
+use Rattle.rules.specs.Kernel.{isLive, Obj, World, rewrite, edit, Change, keep, alter, apply, Call, createCategory, setLabel, setClearance, createContainer, createSegment}
+use Rattle.rules.specs.Kernel.{createGate, createThread, unreference, linkSegment, fixQuota, moveQuota, read, write, resize, enterGate, look, grant, goodArguments, judge}
+use Rattle.rules.specs.Kernel.{call, answerOf, valueOf, outputOf, after, overwrite, resized, blockSize, maxBlock, History, beginning, next, worldAfter}
 use Rattle.rules.specs.Sound.{Sound}
 use Rattle.rules.specs.Histories.{firstWorld, WellStarted}
 use Rattle.rules.specs.Written.{leftBy, lastWritten, rewrites}

@@ -8,25 +8,37 @@ use native.Mathlib.Omega.{arith}
 use lib.Dec.{eqb, leb}
 use lib.IntN.{pos, negsuc}
 use borrow.Author.Tests.{eqb-true, leb-true, leb-false, lt-leb}
-use Rattle.rules.specs.Kernel.{Obj, World, Call, createCategory, setLabel, setClearance, createContainer, createSegment, createGate, createThread, unreference, linkSegment, fixQuota, moveQuota, read, write, resize, enterGate, look, Change, keep, alter, create, cut, link, apply, Condition, Verdict, refuse, grant, must, make, move, access, goodArguments, judge, tests, call, answerOf, valueOf, outputOf, leaves, after, lastNumber}
+use Rattle.rules.specs.Kernel.{Obj, World, Call, createCategory, setLabel, setClearance, createContainer, createSegment, createGate, createThread, unreference, linkSegment}
+use Rattle.rules.specs.Kernel.{fixQuota, moveQuota, read, write, resize, enterGate, look, Change, keep, alter, create, cut, link, apply, Condition, allHold, Refusal, by}
+use Rattle.rules.specs.Kernel.{numberOf, Verdict, refused, grant, unless, must, whyNot, mustHold, make, move, access, goodArguments, judge, tests, call, answerOf, valueOf}
+use Rattle.rules.specs.Kernel.{outputOf, leaves, after, lastNumber}
 use Rattle.rules.specs.Answers.{oneOf, numbersOf, NumberTaken, Granted}
+use Rattle.rules.specs.Laws.Must.{why-seven}
 use Rattle.rules.specs.Laws.Bools.{or-cases, or-i-r, then-l, then-r}
 
 -- ---- the numbers of a verdict
 
 -- if it refuses, then by one of these numbers
 unfoldable among : List ℕ → Verdict → Bool
-among ns (refuse k) = oneOf k ns
+among ns (refused r) = oneOf (numberOf r) ns
 among ns (grant v b h) = true
 
 module _ (ns : List ℕ) where
+  unless-among : (p : Bool) (f : Refusal) (r : Verdict) → oneOf (numberOf f) ns ≡ true → among ns r ≡ true → among ns (unless p f r) ≡ true
+  unfolding unless among
+  unless-among true f r h e = e
+  unless-among false f r h e = h
+
   test : (p : Bool) (k : ℕ) (r : Verdict) → oneOf k ns ≡ true → among ns r ≡ true → among ns (must p k r) ≡ true
-  unfolding must among
-  test true k r h f = f
-  test false k r h f = h
+  unfolding must
+  test p k r h f = unless-among p (by k) r h f
+
+  hold : (qs : List Condition) (r : Verdict) → oneOf 7 ns ≡ true → among ns r ≡ true → among ns (mustHold qs r) ≡ true
+  unfolding mustHold
+  hold qs r h f = unless-among (allHold qs) (whyNot qs) r (rw (why-seven qs) h) f
 
   no-test : (k : ℕ) (r : Verdict) → among ns r ≡ true → among ns (must true k r) ≡ true
-  unfolding must
+  unfolding unless must
   no-test k r f = f
 
   end : (v : ℕ) (b : List ℕ) (h : Change) → among ns (grant v b h) ≡ true
@@ -35,36 +47,36 @@ module _ (ns : List ℕ) where
 
 one-more : (n : ℕ) (ns : List ℕ) (r : Verdict) → among ns r ≡ true → among (n ∷ ns) r ≡ true
 unfolding among oneOf
-one-more n ns (refuse k) h = or-i-r (eqb k n) (oneOf k ns) h
+one-more n ns (refused r) h = or-i-r (eqb (numberOf r) n) (oneOf (numberOf r) ns) h
 one-more n ns (grant v b h) e = refl
 
 make-among : (w : World) (p : Bool) (t : Obj) (d : ℕ) (x : Obj) (more : List Condition)
     → among (3 ∷ 4 ∷ 5 ∷ 7 ∷ 8 ∷ 13 ∷ []) (must p 4 (make w t d x more)) ≡ true
 unfolding oneOf make
-make-among w p t d x more = test _ _ 4 _ refl (test _ _ 5 _ refl (test _ _ 7 _ refl (test _ _ 8 _ refl (test _ _ 13 _ refl (end _ _ _ _)))))
+make-among w p t d x more = test _ _ 4 _ refl (test _ _ 5 _ refl (hold _ _ _ refl (test _ _ 8 _ refl (test _ _ 13 _ refl (end _ _ _ _)))))
 
 module _ (w : World) (c : ℕ) where
   judge-among : (x : Call) → among (3 ∷ numbersOf x) (must (goodArguments (w .next) x) 4 (judge w (w .obj c) c x)) ≡ true
   unfolding judge numbersOf oneOf goodArguments make move access
   judge-among createCategory = no-test _ 4 _ (test _ _ 12 _ refl (end _ _ _ _))
-  judge-among (setLabel l) = test _ _ 4 _ refl (test _ _ 7 _ refl (end _ _ _ _))
-  judge-among (setClearance l) = test _ _ 4 _ refl (test _ _ 7 _ refl (end _ _ _ _))
+  judge-among (setLabel l) = test _ _ 4 _ refl (hold _ _ _ refl (end _ _ _ _))
+  judge-among (setClearance l) = test _ _ 4 _ refl (hold _ _ _ refl (end _ _ _ _))
   judge-among (createContainer d l s m q) = make-among w _ (w .obj c) d _ _
   judge-among (createSegment d l s q) = make-among w _ (w .obj c) d _ _
   judge-among (createGate d l k e x s) = make-among w _ (w .obj c) d _ _
   judge-among (createThread d l k s) = make-among w _ (w .obj c) d _ _
-  judge-among (unreference d o) = no-test _ 4 _ (test _ _ 5 _ refl (test _ _ 7 _ refl (end _ _ _ _)))
+  judge-among (unreference d o) = no-test _ 4 _ (test _ _ 5 _ refl (hold _ _ _ refl (end _ _ _ _)))
   judge-among (linkSegment d1 o d) =
-      no-test _ 4 _ (test _ _ 5 _ refl (test _ _ 6 _ refl (test _ _ 7 _ refl (test _ _ 9 _ refl (test _ _ 10 _ refl (test _ _ 13 _ refl (end _ _ _ _)))))))
-  judge-among (fixQuota d o) = no-test _ 4 _ (test _ _ 5 _ refl (test _ _ 6 _ refl (test _ _ 7 _ refl (end _ _ _ _))))
+      no-test _ 4 _ (test _ _ 5 _ refl (test _ _ 6 _ refl (hold _ _ _ refl (test _ _ 9 _ refl (test _ _ 10 _ refl (test _ _ 13 _ refl (end _ _ _ _)))))))
+  judge-among (fixQuota d o) = no-test _ 4 _ (test _ _ 5 _ refl (test _ _ 6 _ refl (hold _ _ _ refl (end _ _ _ _))))
   judge-among (moveQuota d o (pos n)) =
-      test _ _ 4 _ refl (test _ _ 5 _ refl (test _ _ 6 _ refl (test _ _ 7 _ refl (test _ _ 9 _ refl (test _ _ 13 _ refl (end _ _ _ _))))))
+      test _ _ 4 _ refl (test _ _ 5 _ refl (test _ _ 6 _ refl (hold _ _ _ refl (test _ _ 9 _ refl (test _ _ 13 _ refl (end _ _ _ _))))))
   judge-among (moveQuota d o (negsuc n)) =
-      test _ _ 4 _ refl (test _ _ 5 _ refl (test _ _ 6 _ refl (test _ _ 7 _ refl (test _ _ 9 _ refl (test _ _ 13 _ refl (end _ _ _ _))))))
-  judge-among (read d s k f n) = test _ _ 4 _ refl (test _ _ 5 _ refl (test _ _ 6 _ refl (test _ _ 7 _ refl (test _ _ 11 _ refl (end _ _ _ _)))))
-  judge-among (write d s k f n b) = test _ _ 4 _ refl (test _ _ 5 _ refl (test _ _ 6 _ refl (test _ _ 7 _ refl (test _ _ 11 _ refl (end _ _ _ _)))))
-  judge-among (resize d s n) = test _ _ 4 _ refl (test _ _ 5 _ refl (test _ _ 6 _ refl (test _ _ 7 _ refl (test _ _ 13 _ refl (end _ _ _ _)))))
-  judge-among (enterGate d g lr cr lv out) = test _ _ 4 _ refl (test _ _ 5 _ refl (test _ _ 6 _ refl (test _ _ 7 _ refl (end _ _ _ _))))
+      test _ _ 4 _ refl (test _ _ 5 _ refl (test _ _ 6 _ refl (hold _ _ _ refl (test _ _ 9 _ refl (test _ _ 13 _ refl (end _ _ _ _))))))
+  judge-among (read d s k f n) = test _ _ 4 _ refl (test _ _ 5 _ refl (test _ _ 6 _ refl (hold _ _ _ refl (test _ _ 11 _ refl (end _ _ _ _)))))
+  judge-among (write d s k f n b) = test _ _ 4 _ refl (test _ _ 5 _ refl (test _ _ 6 _ refl (hold _ _ _ refl (test _ _ 11 _ refl (end _ _ _ _)))))
+  judge-among (resize d s n) = test _ _ 4 _ refl (test _ _ 5 _ refl (test _ _ 6 _ refl (hold _ _ _ refl (test _ _ 13 _ refl (end _ _ _ _)))))
+  judge-among (enterGate d g lr cr lv out) = test _ _ 4 _ refl (test _ _ 5 _ refl (test _ _ 6 _ refl (hold _ _ _ refl (end _ _ _ _))))
   judge-among (look d o out) = test _ _ 4 _ refl (test _ _ 5 _ refl (end _ _ _ _))
 
   tests-among : (x : Call) → among (3 ∷ numbersOf x) (tests w c x) ≡ true
@@ -116,22 +128,22 @@ own-range (enterGate d g lr cr lv out) = refl
 own-range (look d o out) = refl
 
 -- a verdict whose numbers are among those refuses by one of them
-among-range : (low high : ℕ) (ns : List ℕ) (r : Verdict) (k : ℕ) → inside low high ns ≡ true → among ns r ≡ true
-    → r ≡ refuse k → (low ≤ k) × (k ≤ high)
+among-range : (low high : ℕ) (ns : List ℕ) (r : Verdict) (f : Refusal) → inside low high ns ≡ true → among ns r ≡ true
+    → r ≡ refused f → (low ≤ numberOf f) × (numberOf f ≤ high)
 unfolding among
-among-range low high ns r k h a e = one-of-range low high k ns h (subst (λ v. among ns v ≡ true) e a)
+among-range low high ns r f h a e = one-of-range low high (numberOf f) ns h (subst (λ v. among ns v ≡ true) e a)
 
-module _ (w : World) (c : ℕ) (x : Call) (k : ℕ) where
-  tests-range : tests w c x ≡ refuse k → (3 ≤ k) × (k ≤ 13)
-  tests-range = among-range 3 13 (3 ∷ numbersOf x) (tests w c x) k (own-range x) (tests-among w c x)
+module _ (w : World) (c : ℕ) (x : Call) (f : Refusal) where
+  tests-range : tests w c x ≡ refused f → (3 ≤ numberOf f) × (numberOf f ≤ 13)
+  tests-range = among-range 3 13 (3 ∷ numbersOf x) (tests w c x) f (own-range x) (tests-among w c x)
 
-  refusal-range : call w c x ≡ refuse k → (2 ≤ k) × (k ≤ 13)
-  unfolding call must
+  refusal-range : call w c x ≡ refused f → (2 ≤ numberOf f) × (numberOf f ≤ 13)
+  unfolding call unless must
   refusal-range = go (leb (w .next) lastNumber)
     where
-      go : (p : Bool) → must p 2 (tests w c x) ≡ refuse k → (2 ≤ k) × (k ≤ 13)
+      go : (p : Bool) → must p 2 (tests w c x) ≡ refused f → (2 ≤ numberOf f) × (numberOf f ≤ 13)
       go true e = let z = tests-range e in (omega arith, omega arith)
-      go false e = let z : 2 ≡ k = cc in (omega arith, omega arith)
+      go false e = let z : by 2 ≡ f = cc in rw (← z) (omega arith, omega arith)
 
 -- a world that only took its number
 kept-number : (w : World) → NumberTaken w (apply keep w)
@@ -156,7 +168,7 @@ module _ (w : World) (c : ℕ) (x : Call) where
   answer-own = go (call w c x) (call-among w c x)
     where
       go : (r : Verdict) → among (2 ∷ 3 ∷ numbersOf x) r ≡ true → oneOf (answerOf r) (0 ∷ 2 ∷ 3 ∷ numbersOf x) ≡ true
-      go (refuse k) h = or-i-r (eqb k 0) _ h
+      go (refused f) h = or-i-r (eqb (numberOf f) 0) _ h
       go (grant v b h) e = refl
 
   -- An answer is at most 13, and never 1: that is about the areas, which a world does not have.
@@ -165,7 +177,7 @@ module _ (w : World) (c : ℕ) (x : Call) where
   answer-most = go (call w c x) refl
     where
       go : (r : Verdict) → call w c x ≡ r → answerOf r ≤ 13
-      go (refuse k) e = refusal-range w c x k e .1
+      go (refused f) e = refusal-range w c x f e .1
       go (grant v b h) e = omega arith
 
   pub never-one : answerOf (call w c x) ≡ 1 → ⊥
@@ -173,7 +185,7 @@ module _ (w : World) (c : ℕ) (x : Call) where
   never-one = go (call w c x) refl
     where
       go : (r : Verdict) → call w c x ≡ r → answerOf r ≡ 1 → ⊥
-      go (refuse k) e a = let z = refusal-range w c x k e in omega arith
+      go (refused f) e a = let z = refusal-range w c x f e in omega arith
       go (grant v b h) e a = omega arith
 
   -- Answer 0 means a grant.
@@ -182,7 +194,7 @@ module _ (w : World) (c : ℕ) (x : Call) where
   granted = go (call w c x) refl
     where
       go : (r : Verdict) → call w c x ≡ r → answerOf r ≡ 0 → Granted w c x
-      go (refuse k) e a = absurd (let z = refusal-range w c x k e in omega arith)
+      go (refused f) e a = absurd (let z = refusal-range w c x f e in omega arith)
       go (grant v b h) e a = record { change = h; verdict = rw e; world = rw e }
 
   -- A refused call has the value 0 and no output.
@@ -191,7 +203,7 @@ module _ (w : World) (c : ℕ) (x : Call) where
   refused-value = go (call w c x)
     where
       go : (r : Verdict) → (answerOf r ≡ 0 → ⊥) → valueOf r ≡ 0
-      go (refuse k) n = refl
+      go (refused (by k)) n = refl
       go (grant v b h) n = absurd (n refl)
 
   pub refused-output : (answerOf (call w c x) ≡ 0 → ⊥) → outputOf (call w c x) ≡ []
@@ -199,7 +211,7 @@ module _ (w : World) (c : ℕ) (x : Call) where
   refused-output = go (call w c x)
     where
       go : (r : Verdict) → (answerOf r ≡ 0 → ⊥) → outputOf r ≡ []
-      go (refuse k) n = refl
+      go (refused f) n = refl
       go (grant v b h) n = absurd (n refl)
 
   -- A call refused by any number but 2 changes nothing but the next number.
@@ -208,7 +220,7 @@ module _ (w : World) (c : ℕ) (x : Call) where
   refused-world = go (call w c x) refl
     where
       go : (r : Verdict) → call w c x ≡ r → (answerOf r ≡ 0 → ⊥) → (answerOf r ≡ 2 → ⊥) → leaves r w ≡ apply keep w
-      go (refuse k) e n m = let z = refusal-range w c x k e in rw (lt-leb k 2 (omega arith))
+      go (refused f) e n m = let z = refusal-range w c x f e in rw (lt-leb (numberOf f) 2 (omega arith))
       go (grant v b h) e n m = absurd (n refl)
 
   -- The same, field by field: the next number moves on by one; root, objects and links are the same.
@@ -221,16 +233,16 @@ module _ (w : World) (c : ℕ) (x : Call) where
   ended-world = go (call w c x)
     where
       go : (r : Verdict) → answerOf r ≡ 2 → leaves r w ≡ w
-      go (refuse k) a = rw a
+      go (refused f) a = rw a
       go (grant v b h) a = absurd (omega arith)
 
   -- Answer 2 is given exactly where the numbers have ended.
   pub ended : (answerOf (call w c x) ≡ 2) ↔ (lastNumber < w .next)
-  unfolding answerOf call must
+  unfolding answerOf call unless must
   ended = (go (leb (w .next) lastNumber) refl, λ l. rw (lt-leb (w .next) lastNumber l))
     where
       late : (r : Verdict) → tests w c x ≡ r → answerOf r ≡ 2 → ⊥
-      late (refuse k) e a = let z = tests-range w c x k e in omega arith
+      late (refused f) e a = let z = tests-range w c x f e in omega arith
       late (grant v b h) e a = omega arith
 
       go : (p : Bool) → leb (w .next) lastNumber ≡ p → answerOf (must p 2 (tests w c x)) ≡ 2 → lastNumber < w .next
@@ -243,5 +255,5 @@ module _ (w : World) (c : ℕ) (x : Call) where
   number-taken = go (call w c x) refl
     where
       go : (r : Verdict) → call w c x ≡ r → (answerOf r ≡ 2 → ⊥) → (leaves r w) .next ≡ suc (w .next)
-      go (refuse k) e m = let z = refusal-range w c x k e in rw (lt-leb k 2 (omega arith)) (change-next keep w)
+      go (refused f) e m = let z = refusal-range w c x f e in rw (lt-leb (numberOf f) 2 (omega arith)) (change-next keep w)
       go (grant v b h) e m = change-next h w

@@ -4,7 +4,7 @@ use mathlib.Core.Bool.{Bool, true, false, cond}
 use mathlib.Core.Path.{_≡_, refl, sym, subst}
 use lib.Dec.{leb}
 use borrow.Author.Tests.{leb-false}
-use Rattle.rules.specs.Kernel.{World, Call, keep, apply, Verdict, refuse, grant, call, leaves, after, startable, start, lastNumber, History, beginning, next, worldAfter}
+use Rattle.rules.specs.Kernel.{World, Call, keep, apply, numberOf, Verdict, refused, grant, call, leaves, after, startable, start, lastNumber, History, beginning, next, worldAfter}
 use Rattle.rules.specs.Sound.{Sound}
 use Rattle.rules.specs.Histories.{firstWorld, WellStarted}
 use Rattle.rules.specs.Laws.Bools.{bool-cases}
@@ -26,7 +26,7 @@ stays-sound w s c x =
     one-of false n = keep-sound w s n keep tt
 
     judged : leb (w .next) lastNumber ≡ true → (r : Verdict) → call w c x ≡ r → Sound (leaves r w)
-    judged n (refuse k) e = one-of (leb k 2) n
+    judged n (refused f) e = one-of (leb (numberOf f) 2) n
     judged n (grant v b h) e =
         let p = passed w c x v b h e in
         keep-sound w s n h (grants-fair w s c (p .caller) x (p .arguments) v b h (p .judged))

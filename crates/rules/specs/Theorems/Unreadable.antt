@@ -4,7 +4,9 @@ use mathlib.Core.Bool.{Bool, true, false, _&&_, false≢true, and-true}
 use mathlib.Core.Path.{_≡_, refl, sym, _∙_}
 use lib.Dec.{leb}
 use lib.IntN.{pos, negsuc}
-use Rattle.rules.specs.Kernel.{Obj, World, opens, entry, Verdict, refuse, must, make, move, access, judge, tests, call, isThread, goodArguments, lastNumber, Call, createCategory, setLabel, setClearance, createContainer, createSegment, createGate, createThread, unreference, linkSegment, fixQuota, moveQuota, read, write, resize, enterGate, look}
+use Rattle.rules.specs.Kernel.{Obj, World, opens, entry, Verdict, refuse, unless, must, make, move, access, judge, tests, call, isThread, goodArguments, lastNumber, Call}
+use Rattle.rules.specs.Kernel.{createCategory, setLabel, setClearance, createContainer, createSegment, createGate, createThread, unreference, linkSegment, fixQuota}
+use Rattle.rules.specs.Kernel.{moveQuota, read, write, resize, enterGate, look}
 use Rattle.rules.specs.Named.{containersNamed, allOpen}
 
 module _ (w : World) (t : Obj) where
@@ -27,7 +29,7 @@ module _ (w : World) (t : Obj) where
       go false b l e = refl
 
   first-five : (p : Bool) (r : Verdict) → p ≡ false → must p 5 r ≡ refuse 5
-  unfolding must
+  unfolding unless must
   first-five p r e = rw e
 
   -- the first test of a call that names a container is whether it opens
@@ -55,5 +57,5 @@ module _ (w : World) (t : Obj) where
 -- refusal 5, the same in each of the three cases and whatever else the world holds.
 pub unreadable-is-absent : (w : World) (c : ℕ) (x : Call) → leb (w .next) lastNumber ≡ true → isThread ((w .obj c) .kind) ≡ true → goodArguments (w .next) x ≡ true
     → allOpen w (w .obj c) (containersNamed x) ≡ false → call w c x ≡ refuse 5
-unfolding call tests must
+unfolding call tests unless must
 unreadable-is-absent w c x n t g e = rw (n, t, g) (judge-five w (w .obj c) c x e)

@@ -5,9 +5,6 @@ use Rattle.tables.specs.Layout.Laws.{slot-room, slot-get}
 use Rattle.tables.proofs.get16.Statement.{statement}
 use Rattle.tables.proofs.get16.Tie as tie
 
-base-of-requires : tie.Need-base-of-requires
-base-of-requires c κs = search needs
-
 mul-get-u16 : tie.Need-mul-get-u16
 mul-get-u16 c =
     let s = c .before .before in
@@ -30,4 +27,4 @@ returns c =
     c .get-u16 .ensures ∙ slot-get (s .args .b .now) (s .args .t) 2 (s .args .i) _ (s .pre) (omega (arith, f .base-of .ensures))
 
 pub get16-spec : {M : Type 1} → statement M
-get16-spec = tie.close (tie.spec base-of-requires mul-get-u16 add-get-u16 get-u16-requires returns)
+get16-spec = tie.close (tie.spec (λ c κs. search needs) mul-get-u16 add-get-u16 get-u16-requires returns)

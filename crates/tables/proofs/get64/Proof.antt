@@ -5,9 +5,6 @@ use Rattle.tables.specs.Layout.Laws.{slot-room, slot-get}
 use Rattle.tables.proofs.get64.Statement.{statement}
 use Rattle.tables.proofs.get64.Tie as tie
 
-base-of-requires : tie.Need-base-of-requires
-base-of-requires c κs = search needs
-
 mul-get-u64 : tie.Need-mul-get-u64
 mul-get-u64 c =
     let s = c .before .before in
@@ -30,4 +27,4 @@ returns c =
     c .get-u64 .ensures ∙ slot-get (s .args .b .now) (s .args .t) 8 (s .args .i) _ (s .pre) (omega (arith, f .base-of .ensures))
 
 pub get64-spec : {M : Type 1} → statement M
-get64-spec = tie.close (tie.spec base-of-requires mul-get-u64 add-get-u64 get-u64-requires returns)
+get64-spec = tie.close (tie.spec (λ c κs. search needs) mul-get-u64 add-get-u64 get-u64-requires returns)

@@ -5,9 +5,6 @@ use Rattle.tables.specs.Layout.Laws.{slot-room, slot-get}
 use Rattle.tables.proofs.get8.Statement.{statement}
 use Rattle.tables.proofs.get8.Tie as tie
 
-base-of-requires : tie.Need-base-of-requires
-base-of-requires c κs = search needs
-
 add-get-u8 : tie.Need-add-get-u8
 add-get-u8 c =
     let s = c .before .before in
@@ -25,4 +22,4 @@ returns c =
     c .get-u8 .ensures ∙ slot-get (s .args .b .now) (s .args .t) 1 (s .args .i) _ (s .pre) (omega (arith, f .base-of .ensures))
 
 pub get8-spec : {M : Type 1} → statement M
-get8-spec = tie.close (tie.spec base-of-requires add-get-u8 get-u8-requires returns)
+get8-spec = tie.close (tie.spec (λ c κs. search needs) add-get-u8 get-u8-requires returns)

@@ -6,9 +6,6 @@ use Rattle.tables.specs.Layout.Laws.{slot-room, slot-put}
 use Rattle.tables.proofs.put64.Statement.{statement}
 use Rattle.tables.proofs.put64.Tie as tie
 
-base-of-requires : tie.Need-base-of-requires
-base-of-requires c κs = search needs
-
 mul-put-u64 : tie.Need-mul-put-u64
 mul-put-u64 c =
     let s = c .before .before .before in
@@ -24,9 +21,6 @@ put-u64-requires c κs =
     let s = c .before .before .before in
     omega (arith, slot-room (s .args .b .now) (s .args .t) 8 (s .args .i) (s .pre))
 
-same-length : tie.Need-same-length
-same-length c = search needs
-
 returns : tie.Need-returns
 returns c =
     let p = c .before .before in
@@ -36,4 +30,4 @@ returns c =
     ∙ slot-put (s .args .b .now) (s .args .t) 8 (s .args .i) (s .args .v) _ (s .pre) (s .fits .v .fits) (omega (arith, f .base-of .ensures))
 
 pub put64-spec : {M : Type 1} → statement M
-put64-spec = tie.close (tie.spec base-of-requires mul-put-u64 add-put-u64 put-u64-requires same-length returns)
+put64-spec = tie.close (tie.spec (λ c κs. search needs) mul-put-u64 add-put-u64 put-u64-requires (λ c. search needs) returns)

@@ -6,9 +6,6 @@ use Rattle.tables.specs.Layout.Laws.{slot-room, slot-put}
 use Rattle.tables.proofs.put8.Statement.{statement}
 use Rattle.tables.proofs.put8.Tie as tie
 
-base-of-requires : tie.Need-base-of-requires
-base-of-requires c κs = search needs
-
 add-put-u8 : tie.Need-add-put-u8
 add-put-u8 c =
     let s = c .before .before .before in
@@ -19,9 +16,6 @@ put-u8-requires c κs =
     let s = c .before .before .before in
     omega (arith, slot-room (s .args .b .now) (s .args .t) 1 (s .args .i) (s .pre))
 
-same-length : tie.Need-same-length
-same-length c = search needs
-
 returns : tie.Need-returns
 returns c =
     let p = c .before .before in
@@ -31,4 +25,4 @@ returns c =
     ∙ slot-put (s .args .b .now) (s .args .t) 1 (s .args .i) (s .args .v) _ (s .pre) (s .fits .v .fits) (omega (arith, f .base-of .ensures))
 
 pub put8-spec : {M : Type 1} → statement M
-put8-spec = tie.close (tie.spec base-of-requires add-put-u8 put-u8-requires same-length returns)
+put8-spec = tie.close (tie.spec (λ c κs. search needs) add-put-u8 put-u8-requires (λ c. search needs) returns)

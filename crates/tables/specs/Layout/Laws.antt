@@ -6,15 +6,13 @@ use Prim.Native.Nat.{ℕ, zero, suc, _+_, _*_, _^_, _<_, _≤_}
 use native.Mathlib.Nat.{suc-mul, mul-le-mul-right, zero-mul, eq-or-lt-of-le, add-zero, zero-add, suc-add, add-suc}
 use native.Mathlib.Omega.{arith}
 use mathlib.Core.List.{List, [], _∷_}
-use lib.ListN.{length, getD, set}
+use lib.ListN.{length, getD, set, List·getD-eq-default}
 use lib.Seq.{ext-getD}
 use lib.Dec.{eqb}
 use borrow.Author.Tests.{eq-eqb, ne-eqb}
 use Rattle.labels.specs.Le.{leAt, leSet}
-use Rattle.labels.specs.Le.Laws.{Below, leSet-low, leSet-high, leAt-agree, leAt-same, leAt-below}
-use Rattle.labels.specs.Core.{wordCount}
-use Rattle.rules.specs.Kernel.{textSize}
-use Rattle.tables.specs.Layout.{rowCount, linkCount, blockCount, tableCount, wOf, nOf, base, size, nums, tab, fromTabs, tabOf, view, putT, Slot}
+use Rattle.labels.specs.Le.Laws.{leSet-low, leSet-high, leAt-agree, leAt-same}
+use Rattle.tables.specs.Layout.{tables, tableCount, wOf, nOf, base, size, nums, tab, View, fromTabs, tabs, tabOf, view, putT, Slot}
 
 -- c has b's bytes from lo up to hi
 abbrev pub Agree : List ℕ → List ℕ → ℕ → ℕ → Type 0
@@ -58,13 +56,6 @@ unfolding nums
 nums-length w zero b from = refl
 nums-length w (suc n) b from = ap suc (nums-length w n b (from + w))
 
--- a number of w bytes is below 256 to the w
-pub nums-below : (w n : ℕ) (b : List ℕ) (from : ℕ) → Below 256 b → Below (256 ^ w) (nums w n b from)
-unfolding nums
-nums-below w zero b from h i = omega (arith, leAt-below w b from h)
-nums-below w (suc n) b from h zero = leAt-below w b from h
-nums-below w (suc n) b from h (suc i) = nums-below w n b (from + w) h i
-
 -- ---- the tables of the bytes
 
 -- two numbers are equal, or one is below the other
@@ -74,6 +65,9 @@ three zero (suc t) = inr (inl (omega arith))
 three (suc s) zero = inr (inr (omega arith))
 three (suc s) (suc t) =
     ⊎-elim (λ e. inl (ap suc e)) (λ o. ⊎-elim (λ q. inr (inl (omega arith))) (λ q. inr (inr (omega arith))) o) (three s t)
+
+pub side : (k m : ℕ) → (k < m) ⊎ (m ≤ k)
+side k m = ⊎-elim (λ e. inr (omega arith)) (λ o. ⊎-elim (λ q. inl q) (λ q. inr (omega arith)) o) (three k m)
 
 -- tables do not overlap
 pub base-le : (t s : ℕ) → t < s → base t + nOf t * wOf t ≤ base s
@@ -93,10 +87,6 @@ tab-at t i b h = nums-at (wOf t) (nOf t) b (base t) i h
 pub tab-length : (t : ℕ) (b : List ℕ) → length (tab b t) ≡ nOf t
 unfolding tab
 tab-length t b = nums-length (wOf t) (nOf t) b (base t)
-
-pub tab-below : (t : ℕ) (b : List ℕ) → Below 256 b → Below (256 ^ wOf t) (tab b t)
-unfolding tab
-tab-below t b h = nums-below (wOf t) (nOf t) b (base t) h
 
 -- ---- a book as a function of the table's number
 
@@ -202,68 +192,12 @@ slot-get b t w i from s e =
 
 -- ---- the tables of a view
 
-pub tabOf-long : (b : List ℕ) (t : ℕ) → t < tableCount → length (tabOf (view b) t) ≡ nOf t
-tabOf-long b t h = ap length (tabOf-is b t h) ∙ tab-length t b
+-- past the last table there is none, so it is enough to know the lengths of those below tableCount
+pub long-all : (k : View) → ((t : ℕ) → t < tableCount → length (tabOf k t) ≡ nOf t) → (t : ℕ) → length (tabOf k t) ≡ nOf t
+long-all k f t =
+    ⊎-elim (f t)
+    (λ h. ap length (List·getD-eq-default (tabs k) [] {n = t} h) ∙ sym (ap (λ (x : ℕ × ℕ). x .1) (List·getD-eq-default tables (0, 0) {n = t} h)))
+    (side t tableCount)
 
--- where b is bytes, a number is as small as its width says
-pub tabOf-below : (b : List ℕ) (t : ℕ) → t < tableCount → Below 256 b → Below (256 ^ wOf t) (tabOf (view b) t)
-tabOf-below b t h q = subst (Below (256 ^ wOf t)) (sym (tabOf-is b t h)) (tab-below t b q)
-
--- the same for each field by its name
-module _ (b : List ℕ) where
-  pub next-long : length (view b .next) ≡ 1
-  next-long = tabOf-long b 0 (omega arith)
-
-  pub root-long : length (view b .root) ≡ 1
-  root-long = tabOf-long b 1 (omega arith)
-
-  pub id-long : length (view b .id) ≡ rowCount
-  id-long = tabOf-long b 2 (omega arith)
-
-  pub kind-long : length (view b .kind) ≡ rowCount
-  kind-long = tabOf-long b 3 (omega arith)
-
-  pub mask-long : length (view b .mask) ≡ rowCount
-  mask-long = tabOf-long b 4 (omega arith)
-
-  pub fixed-long : length (view b .fixed) ≡ rowCount
-  fixed-long = tabOf-long b 5 (omega arith)
-
-  pub quota-long : length (view b .quota) ≡ rowCount
-  quota-long = tabOf-long b 6 (omega arith)
-
-  pub len-long : length (view b .len) ≡ rowCount
-  len-long = tabOf-long b 7 (omega arith)
-
-  pub entry-long : length (view b .entry) ≡ rowCount
-  entry-long = tabOf-long b 8 (omega arith)
-
-  pub labelDefault-long : length (view b .labelDefault) ≡ rowCount
-  labelDefault-long = tabOf-long b 9 (omega arith)
-
-  pub labelWords-long : length (view b .labelWords) ≡ rowCount * wordCount
-  labelWords-long = tabOf-long b 10 (omega arith)
-
-  pub clearDefault-long : length (view b .clearDefault) ≡ rowCount
-  clearDefault-long = tabOf-long b 11 (omega arith)
-
-  pub clearWords-long : length (view b .clearWords) ≡ rowCount * wordCount
-  clearWords-long = tabOf-long b 12 (omega arith)
-
-  pub description-long : length (view b .description) ≡ rowCount * textSize
-  description-long = tabOf-long b 13 (omega arith)
-
-  pub closure-long : length (view b .closure) ≡ rowCount * textSize
-  closure-long = tabOf-long b 14 (omega arith)
-
-  pub linkFrom-long : length (view b .linkFrom) ≡ linkCount
-  linkFrom-long = tabOf-long b 15 (omega arith)
-
-  pub linkTo-long : length (view b .linkTo) ≡ linkCount
-  linkTo-long = tabOf-long b 16 (omega arith)
-
-  pub owner-long : length (view b .owner) ≡ blockCount
-  owner-long = tabOf-long b 17 (omega arith)
-
-  pub index-long : length (view b .index) ≡ blockCount
-  index-long = tabOf-long b 18 (omega arith)
+pub tabOf-long : (b : List ℕ) (t : ℕ) → length (tabOf (view b) t) ≡ nOf t
+tabOf-long b = long-all (view b) (λ t h. ap length (tabOf-is b t h) ∙ tab-length t b)

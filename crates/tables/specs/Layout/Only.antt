@@ -1,6 +1,6 @@
 -- Every byte is in exactly one field: two books with one view are one list.
 use mathlib.Core.Path.{_≡_, sym, ap, _∙_}
-use mathlib.Core.Logic.{_⊎_, inl, inr, ⊎-elim}
+use mathlib.Core.Logic.{⊎-elim}
 use Prim.Native.Nat.{ℕ, zero, suc, _+_, _*_, _<_, _≤_}
 use native.Mathlib.Nat.{suc-mul, zero-mul, eq-or-lt-of-le}
 use native.Mathlib.Omega.{arith}
@@ -10,10 +10,7 @@ use lib.Seq.{ext-getD}
 use Rattle.labels.specs.Le.{leAt}
 use Rattle.labels.specs.Le.Laws.{Below}
 use Rattle.tables.specs.Layout.{tableCount, wOf, nOf, base, size, nums, tab, tabOf, view}
-use Rattle.tables.specs.Layout.Laws.{Agree, tabOf-is, three}
-
-pub side : (k m : ℕ) → (k < m) ⊎ (m ≤ k)
-side k m = ⊎-elim (λ e. inr (omega arith)) (λ o. ⊎-elim (λ q. inl q) (λ q. inr (omega arith)) o) (three k m)
+use Rattle.tables.specs.Layout.Laws.{Agree, side, tabOf-is}
 
 module _ (b c : List ℕ) (hb : Below 256 b) (hc : Below 256 c) where
   leAt-only : (w from : ℕ) → leAt w b from ≡ leAt w c from → Agree b c from (from + w)

@@ -1,13 +1,13 @@
 -- Numbers that stand in a row, written or read one by one.
 use mathlib.Core.Path.{_≡_, refl, sym, ap, _∙_}
 use mathlib.Core.Bool.{Bool, true, false, cond}
-use Prim.Native.Nat.{ℕ, zero, suc, _+_, _-_, _*_, _<_, _≤_}
+use Prim.Native.Nat.{ℕ, suc, _+_, _-_, _*_, _<_, _≤_}
 use native.Mathlib.Nat.{add-zero, add-suc, suc-add, mul-le-mul-left}
 use native.Mathlib.Numerals.{add-one}
 use native.Mathlib.Omega.{arith}
 use mathlib.Core.List.{List, [], _∷_, _++_, append-assoc}
 use lib.ListN.{length, getD, set, take, drop, length-drop}
-use lib.Seq.{sets, sets-eq, take-suc, take-suc-set, take-at, take-set-le, drop-at, drop-cons, drop-set-lt, drop-set-add, getD-drop, length-take-le}
+use lib.Seq.{sets, sets-eq, take-suc, take-suc-set, take-at, take-set-le, drop-at, drop-set-lt, drop-set-add, getD-drop, length-take-le}
 use lib.Dec.{eqb}
 use Rattle.tables.specs.Layout.{tableCount, wOf, nOf, size, View, tabOf, view, putT, runT, Run}
 use Rattle.tables.specs.Layout.Laws.{tabs-same, tabOf-from, tabOf-long, base-le}
@@ -20,7 +20,7 @@ run-small b t w i n r h =
 
 -- and the table reaches as far
 pub run-long : (b : List ℕ) (t w i n : ℕ) → Run b t w i n → i + n ≤ length (tabOf (view b) t)
-run-long b t w i n r = omega (arith, tabOf-long b t (r .table), r .place)
+run-long b t w i n r = omega (arith, tabOf-long b t, r .place)
 
 -- ---- a run written
 
@@ -86,14 +86,3 @@ sets-before l i (v ∷ vs) j n h = sets-before (set l i v) (suc i) vs j n (omega
 pub sets-behind : (l : List ℕ) (i : ℕ) (vs : List ℕ) (j : ℕ) → i + length vs ≤ j → drop j (sets l i vs) ≡ drop j l
 sets-behind l i [] j h = refl
 sets-behind l i (v ∷ vs) j h = sets-behind (set l i v) (suc i) vs j (omega arith) ∙ drop-set-lt j l i v (omega arith)
-
--- the n elements from i on, one by one
-abbrev pub each : ℕ → List ℕ → ℕ → List ℕ
-each zero l i = []
-each (suc n) l i = getD l i 0 ∷ each n l (i + 1)
-
-pub take-each : (n : ℕ) (l : List ℕ) (i : ℕ) → i + n ≤ length l → take n (drop i l) ≡ each n l i
-take-each zero l i h = refl
-take-each (suc n) l i h =
-    ap (take (suc n)) (drop-cons l i 0 (omega arith))
-    ∙ ap (λ (x : List ℕ). getD l i 0 ∷ x) (ap (λ (m : ℕ). take n (drop m l)) (sym (add-one i)) ∙ take-each n l (i + 1) (omega arith))

@@ -6,11 +6,11 @@ use mathlib.Core.List.{List, _∷_, _++_}
 use borrow.Author.Tests.{not-true}
 use Rattle.labels.specs.Core.{at}
 use Rattle.rules.specs.Kernel.{isThread, isSegment, isContainer, Obj, World, Edit, relabel, fix, requota, rewrite, Change, keep, alter, create, cut, link}
-use Rattle.rules.specs.Kernel.{Condition, allHold, flow, writing, Verdict, grant, must, opens, entry, make, move, access}
+use Rattle.rules.specs.Kernel.{Condition, allHold, flow, writing, Verdict, grant, must, mustHold, opens, entry, make, move, access}
 use Rattle.rules.specs.Sound.{Sound}
 use Rattle.rules.specs.Laws.Kinds.{thread-live}
+use Rattle.rules.specs.Laws.Must.{must-test, must-rest, hold-test, hold-rest, same-change, all-head, all-left, all-right}
 use Rattle.rules.specs.Laws.Entries.{opens-container, opens-read, entry-opens, entry-link}
-use Rattle.rules.specs.Laws.Must.{must-test, must-rest, same-change, all-head, all-left, all-right}
 use Rattle.tainted.specs.Laws.Levels.{flow-holds, flows-at, reads-at, writes-at}
 use Rattle.tainted.specs.Laws.Alike.{TermsKept}
 
@@ -69,8 +69,8 @@ module _ {v : ℕ} {w : World} {c : ℕ} where
   pass p k r f = record { respected = λ n l h e. f (must-test n l h p k r e) .respected n l h (must-rest n l h p k r e) }
 
   -- the label conditions passed
-  pub pass7 : (qs : List Condition) (r : Verdict) → (allHold qs ≡ true → Grants v w c r) → Grants v w c (must (allHold qs) 7 r)
-  pass7 qs r f = pass (allHold qs) 7 r f
+  pub pass7 : (qs : List Condition) (r : Verdict) → (allHold qs ≡ true → Grants v w c r) → Grants v w c (mustHold qs r)
+  pass7 qs r f = record { respected = λ n l h e. f (hold-test n l h qs r e) .respected n l h (hold-rest n l h qs r e) }
 
   pub done : (n : ℕ) (l : List ℕ) (h : Change) → Respects v w c h → Grants v w c (grant n l h)
   done n l h f = record { respected = λ m k g e. same-change (Respects v w c) n m l k h g e f }
@@ -97,7 +97,13 @@ module _ {v : ℕ} {w : World} {c : ℕ} where
 
     pub found : (d o : ℕ) → entry w (w .obj c) d o ≡ true → Found v w c o
     found d o p =
-        record { from = d; is-container = opens-container w (w .obj c) d (entry-opens w (w .obj c) d o p); is-linked = entry-link w (w .obj c) d o p; level = opens-level d (entry-opens w (w .obj c) d o p) }
+        record {
+          from = d;
+          is-container = opens-container w (w .obj c) d (entry-opens w (w .obj c) d o p);
+          is-linked = entry-link w (w .obj c) d o p;
+          level = opens-level d
+              (entry-opens w (w .obj c) d o p);
+        }
 
     -- the caller's label flows to x, a condition after those of writing d
     pub not-below : (d : ℕ) (x : Obj) (more : List Condition)

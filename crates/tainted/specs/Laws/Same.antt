@@ -3,13 +3,13 @@
 use Prim.Native.Nat.{ℕ, _-_, _≤_}
 use native.Mathlib.Omega.{arith}
 use mathlib.Core.Bool.{Bool, true, false, not, _&&_, _||_}
-use mathlib.Core.Path.{_≡_, refl, sym, _∙_, ap, ap₂}
+use mathlib.Core.Path.{_≡_, refl, sym, subst, _∙_, ap, ap₂}
 use mathlib.Core.List.{List, _∷_, _++_}
 use lib.Dec.{leb}
 use Rattle.labels.specs.declared.Label.{Label}
 use Rattle.labels.specs.Core.{at, mayRead}
 use Rattle.quotas.specs.Sum.{Σ, when, sum-cong, when-cong}
-use Rattle.rules.specs.Kernel.{Kind, isThread, isSegment, isContainer, Obj, World, charged, spareOf, Condition, allHold, flow, reading, writing, Verdict, must}
+use Rattle.rules.specs.Kernel.{Kind, isThread, isSegment, isContainer, Obj, World, charged, spareOf, Condition, allHold, flow, reading, writing, Verdict, unless, must, whyNot, mustHold}
 use Rattle.rules.specs.Kernel.{opens, entry, fits, make, move, access, lookBytes}
 use Rattle.rules.specs.Laws.Bools.{not-both, not-i, bool-cases}
 use Rattle.rules.specs.Laws.Kinds.{segment-no-thread}
@@ -26,13 +26,18 @@ use Rattle.tainted.specs.Laws.Alike.{Alike}
 -- ---- tests
 
 pub must-same : (p q : Bool) (k : ℕ) (r u : Verdict) → p ≡ q → (p ≡ true → r ≡ u) → must p k r ≡ must q k u
-unfolding must
+unfolding unless must
 must-same true q k r u e f = rw (← e) (f refl)
 must-same false q k r u e f = rw (← e)
 
 -- The same label conditions, in the same order: whatever answer 7 tells of them is the same.
-pub must7-same : (qs rs : List Condition) (r u : Verdict) → qs ≡ rs → (allHold qs ≡ true → r ≡ u) → must (allHold qs) 7 r ≡ must (allHold rs) 7 u
-must7-same qs rs r u e f = must-same (allHold qs) (allHold rs) 7 r u (ap allHold e) f
+pub must7-same : (qs rs : List Condition) (r u : Verdict) → qs ≡ rs → (allHold qs ≡ true → r ≡ u) → mustHold qs r ≡ mustHold rs u
+unfolding mustHold unless
+must7-same qs rs r u e f = subst (λ xs. mustHold qs r ≡ mustHold xs u) e (go (allHold qs) f)
+  where
+    go : (p : Bool) → (p ≡ true → r ≡ u) → unless p (whyNot qs) r ≡ unless p (whyNot qs) u
+    go true f = f refl
+    go false f = refl
 
 pub and-same : (a b c d : Bool) → a ≡ b → (a ≡ true → c ≡ d) → (a && c) ≡ (b && d)
 and-same true b c d p q = rw (← p, q refl)

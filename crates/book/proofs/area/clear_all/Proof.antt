@@ -46,14 +46,4 @@ returns c =
 
 pub clear-all-spec : {M : Type 1} → statement M
 clear-all-spec =
-    tie.close
-    (tie.spec
-    Inv-loop
-    μ-loop
-    loop-holds
-    slice-write-area
-    add-i
-    loop-less
-    loop-again
-    same-length
-    returns)
+    tie.close (tie.spec Inv-loop μ-loop loop-holds slice-write-area add-i loop-less loop-again same-length returns)

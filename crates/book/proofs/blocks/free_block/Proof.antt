@@ -25,7 +25,8 @@ returns : tie.Need-returns Inv-loop μ-loop
 unfolding freeBlock
 returns c =
     let l = c .before .before .before .loop in
-    sym (loop-hit blockCount (λ i. eqb (ownerOf (view (c .before .before .before .before .before .args .b .now)) i) 0) (l .x) (l .inv .1) (omega arith) (sym (c .before .is-free .ensures) ∙ c .if1 .taken))
+    sym (loop-hit blockCount (λ i. eqb (ownerOf (view (c .before .before .before .before .before .args .b .now)) i) 0) (l .x) (l .inv .1) (omega arith)
+    (sym (c .before .is-free .ensures) ∙ c .if1 .taken))
 
 add-x : tie.Need-add-x Inv-loop μ-loop
 add-x c = omega arith
@@ -35,8 +36,11 @@ loop-less c = omega arith
 
 loop-again : tie.Need-loop-again Inv-loop μ-loop
 loop-again c =
-    let l = c .before .before .before .loop in
-    (omega arith, loop-miss blockCount (λ i. eqb (ownerOf (view (c .before .before .before .before .before .args .b .now)) i) 0) (l .x) (l .inv .1) (omega arith) (sym (c .before .is-free .ensures) ∙ c .if1 .left))
+    let l = c .before .before .before .loop in (
+      omega arith,
+      loop-miss blockCount (λ i. eqb (ownerOf (view (c .before .before .before .before .before .args .b .now)) i) 0) (l .x) (l .inv .1) (omega arith)
+          (sym (c .before .is-free .ensures) ∙ c .if1 .left),
+    )
 
 returns-2 : tie.Need-returns-2 Inv-loop μ-loop
 unfolding freeBlock

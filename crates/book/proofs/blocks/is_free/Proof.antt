@@ -5,11 +5,8 @@ use lib.Dec.{eqb}
 use Rattle.book.proofs.blocks.is_free.Statement.{statement}
 use Rattle.book.proofs.blocks.is_free.Tie as tie
 
-get16-requires : tie.Need-get16-requires
-get16-requires c κs = search needs
-
 returns : tie.Need-returns
 returns c = ap (λ (o : ℕ). eqb o 0) (c .get16 .ensures)
 
 pub is-free-spec : {M : Type 1} → statement M
-is-free-spec = tie.close (tie.spec get16-requires returns)
+is-free-spec = tie.close (tie.spec (λ c κs. search needs) returns)

@@ -4,9 +4,8 @@ use mathlib.Core.Logic.{⊎-elim}
 use mathlib.Core.Path.{_≡_, refl, sym, _∙_, ap, subst}
 use mathlib.Core.List.{List}
 use lib.ListN.{length}
-use Rattle.tables.specs.Layout.{View, view, size, linkCount, putT}
+use Rattle.tables.specs.Layout.{View, view, size, linkCount, linkFromT, putT}
 use Rattle.book.specs.Book.{toOf}
-use Rattle.book.specs.Enact.{linkFromT}
 use Rattle.book.specs.Cut.{Linked}
 use Rattle.book.specs.Laws.CutSteps.{liveLinks, Sofar, begun, links-fall, code-read, all-done, next-linked, next-turned, next-skipped}
 use borrow.Fn.Kinds.{In}
@@ -69,17 +68,33 @@ turn-off-get8-requires t c κs =
       whole = c .before .before .before .before .put16 .kept .0 ∙ ok .sized;
       table = omega arith;
       wide = refl;
-      place = omega (arith, c .index .ensures .0, c .before .before .before .before .before .before .get16 .ensures, ok .ends (c .before .before .before .before .before .before .before .before .before .args .l) (ok .on));
+      place = omega (
+        arith,
+        c .index .ensures .0,
+        c .before .before .before .before .before .before .get16 .ensures,
+        ok .ends
+            (c .before .before .before .before .before .before .before .before .before .args .l) (ok .on),
+      );
     }
 
 turn-off-add-mark : (t : ℕ) → turn-off-lts.Need-add-mark (claims t) (turn-off-at t) turn-off.Post turn-off-Inv-loop turn-off-μ-loop
 turn-off-add-mark t c =
     let ok = c .before .before .before .before .before .before .before .before .before .before .before .pre .1 in
-    omega (arith, c .before .before .before .before .before .before .before .before .get16 .ensures, ok .ends (c .before .before .before .before .before .before .before .before .before .before .before .args .l) (ok .on))
+    omega (
+      arith,
+      c .before .before .before .before .before .before .before .before .get16 .ensures,
+      ok .ends
+          (c .before .before .before .before .before .before .before .before .before .before .before .args .l) (ok .on),
+    )
 
 turn-off-loop-holds : (t : ℕ) → turn-off-lts.Need-loop-holds (claims t) (turn-off-at t) turn-off.Post turn-off-Inv-loop turn-off-μ-loop
-turn-off-loop-holds t c =
-    (c .before .before .before .before .before .before .put16 .kept .0 ∙ c .before .before .before .before .before .before .before .before .before .before .before .pre .1 .sized, omega arith, λ e ok q. begun e (c .before .before .before .before .before .before .before .before .before .before .before .args .l) ok (c .before .before .before .before .before .before .put16 .last .0) q)
+turn-off-loop-holds t c = (
+  c .before .before .before .before .before .before .put16 .kept .0
+      ∙ c .before .before .before .before .before .before .before .before .before .before .before .pre .1 .sized,
+  omega arith,
+  λ e ok q. begun e
+      (c .before .before .before .before .before .before .before .before .before .before .before .args .l) ok (c .before .before .before .before .before .before .put16 .last .0) q,
+)
 
 turn-off-get16-requires-2 : (t : ℕ) → turn-off-lts.Need-get16-requires-2 (claims t) (turn-off-at t) turn-off.Post turn-off-Inv-loop turn-off-μ-loop
 turn-off-get16-requires-2 t c κs = record { whole = c .before .before .loop .inv .0; table = omega arith; wide = refl; place = c .before .loop-test .taken }
@@ -91,9 +106,12 @@ turn-off-turn-off-requires t c κs =
     let b = c .before .before .before .before .before .loop .b in
     let k = c .before .before .before .before .before .loop .k in
     let mark = c .before .before .get162 in
-    let s = c .before .before .before .before .before .loop .inv .2 (a .b .now) (p .1) (c .before .before .before .before .before .before .before .before .before .before .before .before .put16 .ensures) in (
+    let s = c .before .before .before .before .before .loop .inv .2 (a .b .now) (p .1)
+    (c .before .before .before .before .before .before .before .before .before .before .before .before .put16 .ensures) in (
       subst (λ (x : ℕ). liveLinks (view b) < x) (p .0) (links-fall (a .b .now) (a .l) (p .1) b k s),
-      next-linked (a .b .now) (a .l) (p .1) b k s (mark .result) (mark .ensures) (c .before .before .before .before .loop-test .taken) (c .before .before .before .before .before .before .before .before .before .before .before .before .before .before .get16 .result) (c .before .if2 .taken) (c .before .before .before .before .before .loop .inv .0),
+      next-linked (a .b .now) (a .l) (p .1) b k s (mark .result) (mark .ensures) (c .before .before .before .before .loop-test .taken)
+          (c .before .before .before .before .before .before .before .before .before .before .before .before .before .before .get16 .result) (c .before .if2 .taken)
+          (c .before .before .before .before .before .loop .inv .0),
     )
 
 turn-off-add-k : (t : ℕ) → turn-off-lts.Need-add-k (claims t) (turn-off-at t) turn-off.Post turn-off-Inv-loop turn-off-μ-loop

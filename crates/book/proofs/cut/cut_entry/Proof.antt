@@ -6,9 +6,6 @@ use borrow.Author.Needs.{needs}
 use Rattle.book.proofs.cut.cut_entry.Statement.{statement}
 use Rattle.book.proofs.cut.cut_entry.Tie as tie
 
-cut-link-requires : tie.Need-cut-link-requires
-cut-link-requires c κs = search needs
-
 move-on-requires : tie.Need-move-on-requires
 move-on-requires c κs =
     let a = c .before .before .before .before .before .before .before .before .before .before .args in
@@ -17,12 +14,6 @@ move-on-requires c κs =
       link .kept .0 ∙ p .entry .sized,
       omega (arith, p .numbers, cut-next (view (a .b .now)) (a .l) (a .area .now) (view (link .last .0)) (link .last .1 .0) (link .ensures)),
     )
-
-same-length : tie.Need-same-length
-same-length c = search needs
-
-same-length-2 : tie.Need-same-length-2
-same-length-2 c = search needs
 
 returns : tie.Need-returns
 returns c =
@@ -34,4 +25,4 @@ returns c =
 
 pub cut-entry-spec : {M : Type 1} → statement M
 cut-entry-spec =
-    tie.close (tie.spec cut-link-requires move-on-requires same-length same-length-2 returns)
+    tie.close (tie.spec (λ c κs. search needs) move-on-requires (λ c. search needs) (λ c. search needs) returns)

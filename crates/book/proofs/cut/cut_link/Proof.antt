@@ -24,28 +24,17 @@ sweep-blocks-requires c κs =
     let rows = c .before .before .before .before .sweep-rows in
     (still-blocked (a .b .now) (a .area .now) (a .l) p (off .last .0) (off .ensures) (rows .last .0) (rows .ensures) (rows .kept .0 ∙ off .kept .0), p .areaSized)
 
-same-length : tie.Need-same-length
-same-length c = search needs
-
-same-length-2 : tie.Need-same-length-2
-same-length-2 c = search needs
-
 returns : tie.Need-returns
 returns c =
-    let a = c .before .before .before .before .before .before .before .before .before .before .before .before .before .before .before .before .before .args in
-    let off = c .before .before .before .before .before .before .before .before .before .before .before .before .before .turn-off in
-    let rows = c .before .before .before .before .before .before .before .before .before .sweep-rows in
+    let up8 = c .before .before .before .before .before .before .before .before in
+    let up16 = up8 .before .before .before .before .before .before .before .before in
+    let a = up16 .before .args in
+    let off = up8 .before .before .before .before .before .turn-off in
+    let rows = up8 .before .sweep-rows in
     let blocks = c .before .before .before .before .sweep-blocks in
-    whole-cut (a .b .now) (a .area .now) (a .l) (c .before .before .before .before .before .before .before .before .before .before .before .before .before .before .before .before .before .pre) (off .last .0) (off .ensures) (rows .last .0) (rows .ensures)
+    whole-cut (a .b .now) (a .area .now) (a .l) (up16 .before .pre) (off .last .0) (off .ensures) (rows .last .0) (rows .ensures)
     (view (blocks .last .0)) (blocks .ensures .0) (blocks .last .1 .0) (blocks .ensures .1)
 
 pub cut-link-spec : {M : Type 1} → statement M
 cut-link-spec =
-    tie.close
-    (tie.spec
-    turn-off-requires
-    sweep-rows-requires
-    sweep-blocks-requires
-    same-length
-    same-length-2
-    returns)
+    tie.close (tie.spec turn-off-requires sweep-rows-requires sweep-blocks-requires (λ c. search needs) (λ c. search needs) returns)

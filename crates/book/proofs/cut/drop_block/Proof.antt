@@ -6,20 +6,11 @@ use borrow.Author.Needs.{needs}
 use Rattle.book.proofs.cut.drop_block.Statement.{statement}
 use Rattle.book.proofs.cut.drop_block.Tie as tie
 
-get16-requires : tie.Need-get16-requires
-get16-requires c κs = search needs
-
-same-length : tie.Need-same-length
-same-length c = search needs
-
 returns : tie.Need-returns
 returns c =
     let a = c .before .before .before .before .before .args in
     let v = view (a .b .now) in
     block-stays v (a .i) (a .area .now) (block-none v (a .i) (a .area .now) (c .before .get16 .result) (c .before .get16 .ensures) (c .if1 .taken))
-
-row-of-requires : tie.Need-row-of-requires
-row-of-requires c κs = search needs
 
 get8-requires : tie.Need-get8-requires
 get8-requires c κs =
@@ -29,11 +20,14 @@ get8-requires c κs =
       whole = p .0 .sized;
       table = omega arith;
       wide = refl;
-      place = omega (arith, c .row-of .ensures .0, owner .ensures, p .0 .owners (c .before .before .before .before .before .before .before .args .i) (record { low = p .2; used = λ z. c .before .before .if1 .left (owner .ensures ∙ z) }));
+      place = omega (
+        arith,
+        c .row-of .ensures .0,
+        owner .ensures,
+        p .0 .owners (c .before .before .before .before .before .before .before .args .i)
+            (record { low = p .2; used = λ z. c .before .before .if1 .left (owner .ensures ∙ z) }),
+      );
     }
-
-same-length-2 : tie.Need-same-length-2
-same-length-2 c = search needs
 
 returns-2 : tie.Need-returns-2
 returns-2 c =
@@ -45,42 +39,33 @@ returns-2 c =
     block-stays v (a .i) (a .area .now)
     (block-held v (a .i) (a .area .now) (owner .result) (row .result) (code .result) (owner .ensures) (c .before .before .before .before .if1 .left) (row .ensures .0) (code .ensures) (c .if2 .taken))
 
-put16-requires : tie.Need-put16-requires
-put16-requires c κs = search needs
-
-clear-block-requires : tie.Need-clear-block-requires
-clear-block-requires c κs = search needs
-
-same-length-3 : tie.Need-same-length-3
-same-length-3 c = search needs
-
-same-length-4 : tie.Need-same-length-4
-same-length-4 c = search needs
-
 returns-3 : tie.Need-returns-3
 returns-3 c =
-    let a = c .before .before .before .before .before .before .before .before .before .before .before .before .before .before .before .before .before .args in
+    let up8 = c .before .before .before .before .before .before .before .before in
+    let up16 = up8 .before .before .before .before .before .before .before .before in
+    let a = up16 .before .args in
     let v = view (a .b .now) in
-    let owner = c .before .before .before .before .before .before .before .before .before .before .before .before .before .get16 in
-    let row = c .before .before .before .before .before .before .before .before .before .before .row-of in
-    let code = c .before .before .before .before .before .before .before .before .before .get8 in
+    let owner = up8 .before .before .before .before .before .get16 in
+    let row = up8 .before .before .row-of in
+    let code = up8 .before .get8 in
     let goes = block-goes v (a .i) (a .area .now)
-    (block-orphan v (a .i) (a .area .now) (owner .result) (row .result) (code .result) (owner .ensures) (c .before .before .before .before .before .before .before .before .before .before .before .before .if1 .left) (row .ensures .0) (code .ensures) (c .before .before .before .before .before .before .before .before .if2 .left)) in
+    (block-orphan v (a .i) (a .area .now) (owner .result) (row .result) (code .result) (owner .ensures) (up8 .before .before .before .before .if1 .left) (row .ensures .0)
+    (code .ensures) (up8 .if2 .left)) in
     (c .before .before .before .before .before .before .put16 .ensures ∙ goes .0, c .before .before .clear-block .ensures ∙ goes .1)
 
 pub drop-block-spec : {M : Type 1} → statement M
 drop-block-spec =
     tie.close
     (tie.spec
-    get16-requires
-    same-length
+    (λ c κs. search needs)
+    (λ c. search needs)
     returns
-    row-of-requires
+    (λ c κs. search needs)
     get8-requires
-    same-length-2
+    (λ c. search needs)
     returns-2
-    put16-requires
-    clear-block-requires
-    same-length-3
-    same-length-4
+    (λ c κs. search needs)
+    (λ c κs. search needs)
+    (λ c. search needs)
+    (λ c. search needs)
     returns-3)

@@ -10,30 +10,20 @@ returns c =
     let a = c .before .before .args in
     row-held (view (a .b .now)) (a .r) (a .top) (a .held) (c .if1 .taken)
 
-get64-requires : tie.Need-get64-requires
-get64-requires c κs = search needs
-
-same-length : tie.Need-same-length
-same-length c = search needs
-
 returns-2 : tie.Need-returns-2
 returns-2 c =
     let a = c .before .before .before .before .before .args in
     row-root (view (a .b .now)) (a .r) (a .top) (a .held) (c .before .get64 .result) (c .before .before .before .if1 .left) (c .before .get64 .ensures) (c .if2 .taken)
 
-put8-requires : tie.Need-put8-requires
-put8-requires c κs = search needs
-
-same-length-2 : tie.Need-same-length-2
-same-length-2 c = search needs
-
 returns-3 : tie.Need-returns-3
 returns-3 c =
-    let a = c .before .before .before .before .before .before .before .before .before .args in
+    let up8 = c .before .before .before .before .before .before .before .before in
+    let a = up8 .before .args in
     let id = c .before .before .before .before .before .get64 in
-    c .before .before .put8 .ensures ∙ row-free (view (a .b .now)) (a .r) (a .top) (a .held) (id .result) (c .before .before .before .before .before .before .before .if1 .left) (id .ensures) (c .before .before .before .before .if2 .left)
+    c .before .before .put8 .ensures ∙ row-free (view (a .b .now)) (a .r) (a .top) (a .held) (id .result) (c .before .before .before .before .before .before .before .if1 .left)
+    (id .ensures) (c .before .before .before .before .if2 .left)
 
 pub drop-row-spec : {M : Type 1} → statement M
 drop-row-spec =
     tie.close
-    (tie.spec returns get64-requires same-length returns-2 put8-requires same-length-2 returns-3)
+    (tie.spec returns (λ c κs. search needs) (λ c. search needs) returns-2 (λ c κs. search needs) (λ c. search needs) returns-3)

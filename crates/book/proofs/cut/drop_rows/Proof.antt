@@ -2,8 +2,8 @@ use Prim.Native.Nat.{_-_, _≤_}
 use native.Mathlib.Omega.{arith}
 use mathlib.Core.Path.{_≡_, refl, sym, _∙_}
 use lib.ListN.{length, getD}
-use Rattle.tables.specs.Layout.{view, size, rowCount}
-use Rattle.tables.specs.Layout.Laws.{kind-long}
+use Rattle.tables.specs.Layout.{view, size, rowCount, kindT}
+use Rattle.tables.specs.Layout.Laws.{tabOf-long}
 use Rattle.book.specs.Book.{rootOf}
 use Rattle.book.specs.Laws.Sweeps.{RowsTo, rows-start, rows-more, rows-end}
 use Rattle.book.proofs.cut.drop_rows.Statement.{statement}
@@ -19,7 +19,14 @@ root-requires : tie.Need-root-requires Inv-loop μ-loop
 root-requires c κs = c .before .before .before .pre .0
 
 loop-holds : tie.Need-loop-holds Inv-loop μ-loop
-loop-holds c = (omega arith, c .before .before .before .before .pre .0, c .before .before .before .before .pre .0, c .root .ensures, rows-start (c .before .before .before .before .args .held .now) (view (c .before .before .before .before .args .b .now)))
+loop-holds c = (
+  omega arith,
+  c .before .before .before .before .pre .0,
+  c .before .before .before .before .pre .0,
+  c .root .ensures,
+  rows-start
+      (c .before .before .before .before .args .held .now) (view (c .before .before .before .before .args .b .now)),
+)
 
 shared-slice-read-drop-row : tie.Need-shared-slice-read-drop-row Inv-loop μ-loop
 shared-slice-read-drop-row c = omega (arith, c .before .before .before .before .before .before .before .before .pre .1)
@@ -43,14 +50,18 @@ loop-again c =
       row .kept .0 ∙ inv .1,
       inv .2,
       inv .3,
-      rows-more h (view b) (c .before .before .before .before .before .before .loop .r) (view (c .before .before .before .before .before .before .loop .b)) (view (row .last .0)) (inv .4) (kind-long b) (c .before .before .before .before .before .loop-test .taken) _ (getD h (c .before .before .before .before .before .before .loop .r) 0) (inv .3) refl (row .ensures),
+      rows-more h (view b) (c .before .before .before .before .before .before .loop .r) (view (c .before .before .before .before .before .before .loop .b)) (view (row .last .0))
+          (inv .4) (tabOf-long b kindT) (c .before .before .before .before .before .loop-test .taken) _ (getD h (c .before .before .before .before .before .before .loop .r) 0)
+          (inv .3) refl (row .ensures),
     )
 
 same-length : tie.Need-same-length Inv-loop μ-loop
 same-length c = c .before .loop .inv .1 ∙ sym (c .before .loop .inv .2)
 
 returns : tie.Need-returns Inv-loop μ-loop
-returns c = rows-end (c .before .before .before .before .before .before .args .held .now) (view (c .before .before .before .before .before .before .args .b .now)) (c .before .loop .r) (view (c .before .loop .b)) (c .before .loop .inv .4) (kind-long (c .before .before .before .before .before .before .args .b .now)) (c .loop-test .left)
+returns c =
+    rows-end (c .before .before .before .before .before .before .args .held .now) (view (c .before .before .before .before .before .before .args .b .now)) (c .before .loop .r)
+    (view (c .before .loop .b)) (c .before .loop .inv .4) (tabOf-long (c .before .before .before .before .before .before .args .b .now) kindT) (c .loop-test .left)
 
 pub drop-rows-spec : {M : Type 1} → statement M
 drop-rows-spec =

@@ -6,28 +6,23 @@ use borrow.Author.Needs.{needs}
 use Rattle.book.proofs.cut.mark_end.Statement.{statement}
 use Rattle.book.proofs.cut.mark_end.Tie as tie
 
-get16-requires : tie.Need-get16-requires
-get16-requires c κs = search needs
-
 returns : tie.Need-returns
 returns c =
     let a = c .before .before .before .before .args in
     end-none (view (a .b .now)) (a .l) (a .held .now) (c .before .get16 .result) (c .before .get16 .ensures) (c .if1 .taken)
 
-get16-requires-2 : tie.Need-get16-requires-2
-get16-requires-2 c κs = search needs
-
-index-requires : tie.Need-index-requires
-index-requires c κs = search needs
-
 slice-write-held : tie.Need-slice-write-held
 slice-write-held c =
     let p = c .before .before .before .before .before .before .pre in
     let mark = c .before .before .before .get16 in
-    omega (arith, c .index .ensures .0, c .before .get162 .ensures, p .2, p .0 .ends (c .before .before .before .before .before .before .args .l) (record { low = p .1; used = λ z. c .before .before .if1 .left (mark .ensures ∙ z) }))
-
-same-length : tie.Need-same-length
-same-length c = search needs
+    omega (
+      arith,
+      c .index .ensures .0,
+      c .before .get162 .ensures,
+      p .2,
+      p .0 .ends (c .before .before .before .before .before .before .args .l)
+          (record { low = p .1; used = λ z. c .before .before .if1 .left (mark .ensures ∙ z) }),
+    )
 
 returns-2 : tie.Need-returns-2
 returns-2 c =
@@ -38,12 +33,4 @@ returns-2 c =
 
 pub mark-end-spec : {M : Type 1} → statement M
 mark-end-spec =
-    tie.close
-    (tie.spec
-    get16-requires
-    returns
-    get16-requires-2
-    index-requires
-    slice-write-held
-    same-length
-    returns-2)
+    tie.close (tie.spec (λ c κs. search needs) returns (λ c κs. search needs) (λ c κs. search needs) slice-write-held (λ c. search needs) returns-2)

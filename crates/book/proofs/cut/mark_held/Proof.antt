@@ -29,25 +29,21 @@ loop-again : tie.Need-loop-again Inv-loop μ-loop
 loop-again c =
     let v = view (c .before .before .before .before .before .before .before .before .args .b .now) in
     let h = c .before .before .before .before .before .before .before .before .args .held .now in
-    let inv = c .before .before .before .before .before .loop .inv in
-    (omega arith, inv .1, subst (HeldTo v (c .before .before .before .before .before .loop .l + 1) h) (sym (c .before .before .mark-end .ensures)) (held-more v (c .before .before .before .before .before .loop .l) h (c .before .before .before .before .before .loop .held) (inv .2)))
+    let inv = c .before .before .before .before .before .loop .inv in (
+      omega arith,
+      inv .1,
+      subst (HeldTo v (c .before .before .before .before .before .loop .l + 1) h) (sym (c .before .before .mark-end .ensures))
+          (held-more v (c .before .before .before .before .before .loop .l) h (c .before .before .before .before .before .loop .held) (inv .2)),
+    )
 
 same-length : tie.Need-same-length Inv-loop μ-loop
 same-length c = c .before .loop .inv .2 .long ∙ sym (c .before .loop .inv .1)
 
 returns : tie.Need-returns Inv-loop μ-loop
-returns c = held-end (view (c .before .before .before .before .args .b .now)) (c .before .loop .l) (c .before .before .before .before .args .held .now) (c .before .loop .held) (c .before .loop .inv .2) (c .before .loop .inv .0) (c .loop-test .left)
+returns c =
+    held-end (view (c .before .before .before .before .args .b .now)) (c .before .loop .l) (c .before .before .before .before .args .held .now) (c .before .loop .held)
+    (c .before .loop .inv .2) (c .before .loop .inv .0) (c .loop-test .left)
 
 pub mark-held-spec : {M : Type 1} → statement M
 mark-held-spec =
-    tie.close
-    (tie.spec
-    Inv-loop
-    μ-loop
-    loop-holds
-    mark-end-requires
-    add-l
-    loop-less
-    loop-again
-    same-length
-    returns)
+    tie.close (tie.spec Inv-loop μ-loop loop-holds mark-end-requires add-l loop-less loop-again same-length returns)

@@ -2,8 +2,8 @@ use Prim.Native.Nat.{_-_, _≤_}
 use native.Mathlib.Omega.{arith}
 use mathlib.Core.Path.{_≡_, sym, _∙_}
 use lib.ListN.{length}
-use Rattle.tables.specs.Layout.{view, size, blockCount}
-use Rattle.tables.specs.Layout.Laws.{owner-long}
+use Rattle.tables.specs.Layout.{view, size, blockCount, ownerT}
+use Rattle.tables.specs.Layout.Laws.{tabOf-long}
 use Rattle.book.specs.Enact.{areaSize}
 use Rattle.book.specs.Cut.{Blocked}
 use Rattle.book.specs.Laws.Sweeps.{BlocksTo, blocks-start, blocks-more, blocks-end, blocks-blocked}
@@ -17,13 +17,24 @@ abbrev μ-loop : tie.MeasureT-loop
 μ-loop b₀ area₀ i₀ b area i = blockCount - i
 
 loop-holds : tie.Need-loop-holds Inv-loop μ-loop
-loop-holds c = (omega arith, c .before .before .pre .0 .sized, c .before .before .pre .0, c .before .before .pre .1, blocks-start (view (c .before .before .args .b .now)) (c .before .before .args .area .now) (c .before .before .pre .1))
+loop-holds c = (
+  omega arith,
+  c .before .before .pre .0 .sized,
+  c .before .before .pre .0,
+  c .before .before .pre .1,
+  blocks-start (view (c .before .before .args .b .now))
+      (c .before .before .args .area .now) (c .before .before .pre .1),
+)
 
 drop-block-requires : tie.Need-drop-block-requires Inv-loop μ-loop
 drop-block-requires c κs =
     let a = c .before .before .before .before .before .before .args in
-    let inv = c .before .before .before .loop .inv in
-    (blocks-blocked (a .b .now) (c .before .before .before .loop .b) (a .area .now) (c .before .before .before .loop .area) (c .before .before .before .loop .i) (inv .2) (inv .1) (inv .4), inv .4 .long, c .before .before .loop-test .taken)
+    let inv = c .before .before .before .loop .inv in (
+      blocks-blocked (a .b .now) (c .before .before .before .loop .b) (a .area .now) (c .before .before .before .loop .area) (c .before .before .before .loop .i) (inv .2) (inv .1)
+          (inv .4),
+      inv .4 .long,
+      c .before .before .loop-test .taken,
+    )
 
 add-i : tie.Need-add-i Inv-loop μ-loop
 add-i c = omega arith
@@ -41,7 +52,9 @@ loop-again c =
       block .kept .0 ∙ inv .1,
       inv .2,
       inv .3,
-      blocks-more (view b) area (c .before .before .before .before .before .before .before .before .loop .i) (view (c .before .before .before .before .before .before .before .before .loop .b)) (c .before .before .before .before .before .before .before .before .loop .area) (inv .4) (owner-long b) (c .before .before .before .before .before .before .before .loop-test .taken)
+      blocks-more (view b) area (c .before .before .before .before .before .before .before .before .loop .i)
+          (view (c .before .before .before .before .before .before .before .before .loop .b)) (c .before .before .before .before .before .before .before .before .loop .area) (inv .4)
+          (tabOf-long b ownerT) (c .before .before .before .before .before .before .before .loop-test .taken)
           (view (block .last .0)) (block .last .1 .0) (block .ensures .0) (block .ensures .1),
     )
 
@@ -54,19 +67,8 @@ same-length-2 c = c .before .loop .inv .4 .long ∙ sym (c .before .loop .inv .3
 returns : tie.Need-returns Inv-loop μ-loop
 returns c =
     let a = c .before .before .before .before .args in
-    blocks-end (view (a .b .now)) (a .area .now) (c .before .loop .i) (view (c .before .loop .b)) (c .before .loop .area) (c .before .loop .inv .4) (owner-long (a .b .now)) (c .loop-test .left)
+    blocks-end (view (a .b .now)) (a .area .now) (c .before .loop .i) (view (c .before .loop .b)) (c .before .loop .area) (c .before .loop .inv .4) (tabOf-long (a .b .now) ownerT) (c .loop-test .left)
 
 pub sweep-blocks-spec : {M : Type 1} → statement M
 sweep-blocks-spec =
-    tie.close
-    (tie.spec
-    Inv-loop
-    μ-loop
-    loop-holds
-    drop-block-requires
-    add-i
-    loop-less
-    loop-again
-    same-length
-    same-length-2
-    returns)
+    tie.close (tie.spec Inv-loop μ-loop loop-holds drop-block-requires add-i loop-less loop-again same-length same-length-2 returns)

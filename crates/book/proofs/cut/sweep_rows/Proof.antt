@@ -8,21 +8,6 @@ use borrow.Author.Needs.{needs}
 use Rattle.book.proofs.cut.sweep_rows.Statement.{statement}
 use Rattle.book.proofs.cut.sweep_rows.Tie as tie
 
-slice-aggregate-mark-held : tie.Need-slice-aggregate-mark-held
-slice-aggregate-mark-held c = search needs
-
-mark-held-requires : tie.Need-mark-held-requires
-mark-held-requires c κs = search needs
-
-slice-aggregate-drop-rows : tie.Need-slice-aggregate-drop-rows
-slice-aggregate-drop-rows c = search needs
-
-drop-rows-requires : tie.Need-drop-rows-requires
-drop-rows-requires c κs = search needs
-
-same-length : tie.Need-same-length
-same-length c = search needs
-
 returns : tie.Need-returns
 returns c =
     let v = view (c .before .before .before .before .before .before .before .before .before .before .args .b .now) in
@@ -30,11 +15,4 @@ returns c =
 
 pub sweep-rows-spec : {M : Type 1} → statement M
 sweep-rows-spec =
-    tie.close
-    (tie.spec
-    slice-aggregate-mark-held
-    mark-held-requires
-    slice-aggregate-drop-rows
-    drop-rows-requires
-    same-length
-    returns)
+    tie.close (tie.spec (λ c. search needs) (λ c κs. search needs) (λ c. search needs) (λ c κs. search needs) (λ c. search needs) returns)

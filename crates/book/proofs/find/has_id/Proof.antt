@@ -5,16 +5,10 @@ use Rattle.book.specs.Laws.Judged.{id-other, id-same}
 use Rattle.book.proofs.find.has_id.Statement.{statement}
 use Rattle.book.proofs.find.has_id.Tie as tie
 
-get64-requires : tie.Need-get64-requires
-get64-requires c κs = search needs
-
 returns : tie.Need-returns
 returns c =
     let s = c .before .before .before in
     sym (id-other (view (s .args .b .now)) (s .args .id) (s .args .r) (λ e. c .if1 .taken (c .before .get64 .ensures ∙ e)))
-
-get8-requires : tie.Need-get8-requires
-get8-requires c κs = search needs
 
 returns-2 : tie.Need-returns-2
 returns-2 c =
@@ -22,4 +16,4 @@ returns-2 c =
     rw (id-same (view (s .args .b .now)) (s .args .id) (s .args .r) (sym (c .before .before .get64 .ensures) ∙ c .before .if1 .left), ← c .get8 .ensures)
 
 pub has-id-spec : {M : Type 1} → statement M
-has-id-spec = tie.close (tie.spec get64-requires returns get8-requires returns-2)
+has-id-spec = tie.close (tie.spec (λ c κs. search needs) returns (λ c κs. search needs) returns-2)

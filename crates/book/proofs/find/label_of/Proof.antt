@@ -5,22 +5,11 @@ use borrow.Author.Needs.{needs}
 use Rattle.book.proofs.find.label_of.Statement.{statement}
 use Rattle.book.proofs.find.label_of.Tie as tie
 
-get8-requires : tie.Need-get8-requires
-get8-requires c κs = search needs
-
-cast-default : tie.Need-cast-default
-cast-default c = search needs
-
-mul-get-words : tie.Need-mul-get-words
-mul-get-words c = search needs
-
-get-words-requires : tie.Need-get-words-requires
-get-words-requires c κs = search needs
-
 returns : tie.Need-returns
 returns c =
-    label-ext (record { default = c .before .get8 .result; words = c .get-words .result }) (labelOf (view (c .before .before .before .args .b .now)) (c .before .before .before .args .r)) (c .before .get8 .ensures) (c .get-words .ensures)
+    label-ext (record { default = c .before .get8 .result; words = c .get-words .result })
+    (labelOf (view (c .before .before .before .args .b .now)) (c .before .before .before .args .r)) (c .before .get8 .ensures) (c .get-words .ensures)
 
 pub label-of-spec : {M : Type 1} → statement M
 label-of-spec =
-    tie.close (tie.spec get8-requires cast-default mul-get-words get-words-requires returns)
+    tie.close (tie.spec (λ c κs. search needs) (λ c. search needs) (λ c. search needs) (λ c κs. search needs) returns)

@@ -40,14 +40,4 @@ returns-2 c = sym (loop-end _ _ _ (c .before .loop .inv .1) (omega arith))
 
 pub link-of-spec : {M : Type 1} → statement M
 link-of-spec =
-    tie.close
-    (tie.spec
-    Inv-loop
-    μ-loop
-    loop-holds
-    leads-to-requires
-    returns
-    add-l
-    loop-less
-    loop-again
-    returns-2)
+    tie.close (tie.spec Inv-loop μ-loop loop-holds leads-to-requires returns add-l loop-less loop-again returns-2)

@@ -39,14 +39,4 @@ returns-2 c = sym (loop-end _ _ _ (c .before .loop .inv .1) (omega arith))
 
 pub row-of-spec : {M : Type 1} → statement M
 row-of-spec =
-    tie.close
-    (tie.spec
-    Inv-loop
-    μ-loop
-    loop-holds
-    has-id-requires
-    returns
-    add-r
-    loop-less
-    loop-again
-    returns-2)
+    tie.close (tie.spec Inv-loop μ-loop loop-holds has-id-requires returns add-r loop-less loop-again returns-2)

@@ -4,15 +4,6 @@ use borrow.Author.Needs.{needs}
 use Rattle.book.proofs.find.thread_of.Statement.{statement}
 use Rattle.book.proofs.find.thread_of.Tie as tie
 
-row-of-requires : tie.Need-row-of-requires
-row-of-requires c κs = search needs
-
-enum-known-r : tie.Need-enum-known-r
-enum-known-r c = search needs
-
-enum-told : tie.Need-enum-told
-enum-told c = search needs
-
 returns : tie.Need-returns
 returns c = sym (kind-none 1 _ _ (sym (c .before .before .row-of .ensures) ∙ c .enum-told .given .1))
 
@@ -28,4 +19,4 @@ returns-3 c = sym (kind-miss 1 _ _ _ (sym (c .before .before .before .before .be
 pub thread-of-spec : {M : Type 1} → statement M
 thread-of-spec =
     tie.close
-    (tie.spec row-of-requires enum-known-r enum-told returns kind-of-requires returns-2 returns-3)
+    (tie.spec (λ c κs. search needs) (λ c. search needs) (λ c. search needs) returns kind-of-requires returns-2 returns-3)

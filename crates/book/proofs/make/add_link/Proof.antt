@@ -10,21 +10,6 @@ use borrow.Author.Needs.{needs}
 use Rattle.book.proofs.make.add_link.Statement.{statement}
 use Rattle.book.proofs.make.add_link.Tie as tie
 
-free-link-requires : tie.Need-free-link-requires
-free-link-requires c κs = search needs
-
-enum-known-l : tie.Need-enum-known-l
-enum-known-l c = search needs
-
-enum-told : tie.Need-enum-told
-enum-told c = search needs
-
-move-on-requires : tie.Need-move-on-requires
-move-on-requires c κs = search needs
-
-same-length : tie.Need-same-length
-same-length c = search needs
-
 returns : tie.Need-returns
 returns c =
     let m = c .before .before in
@@ -51,9 +36,6 @@ move-on-requires-2 c κs =
     let still = linked-going (a .c) (a .o) (view (a .b .now)) (l .l .given .0 .0) (s .pre .going .numbers) in
     (omega (arith, s .pre .going .whole), subst (λ (u : View). nextOf u ≤ lastNumber) (sym (w .fill-link .ensures)) still)
 
-same-length-2 : tie.Need-same-length-2
-same-length-2 c = search needs
-
 returns-2 : tie.Need-returns-2
 returns-2 c =
     let m = c .before .before in
@@ -71,13 +53,13 @@ pub add-link-spec : {M : Type 1} → statement M
 add-link-spec =
     tie.close
     (tie.spec
-    free-link-requires
-    enum-known-l
-    enum-told
-    move-on-requires
-    same-length
+    (λ c κs. search needs)
+    (λ c. search needs)
+    (λ c. search needs)
+    (λ c κs. search needs)
+    (λ c. search needs)
     returns
     fill-link-requires
     move-on-requires-2
-    same-length-2
+    (λ c. search needs)
     returns-2)

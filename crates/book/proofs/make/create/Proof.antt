@@ -11,18 +11,15 @@ use borrow.Author.Needs.{needs}
 use Rattle.book.proofs.make.create.Statement.{statement}
 use Rattle.book.proofs.make.create.Tie as tie
 
-place-requires : tie.Need-place-requires
-place-requires c κs = search needs
-
 move-on-requires : tie.Need-move-on-requires
 move-on-requires c κs =
     let p = c .before .before .before in
     let s = p .before .before .before .before .before in
-    let a = s .args in
-    (omega (arith, s .pre .going .whole), subst (λ (u : View). nextOf u ≤ lastNumber) (sym (p .place .ensures .1)) (placed-going (a .c) (objectOf (a .row) (a .description .now) (a .closure .now)) (view (a .b .now)) (s .pre .going .numbers)))
-
-same-length : tie.Need-same-length
-same-length c = search needs
+    let a = s .args in (
+      omega (arith, s .pre .going .whole),
+      subst (λ (u : View). nextOf u ≤ lastNumber) (sym (p .place .ensures .1))
+          (placed-going (a .c) (objectOf (a .row) (a .description .now) (a .closure .now)) (view (a .b .now)) (s .pre .going .numbers)),
+    )
 
 returns : tie.Need-returns
 unfolding createdIn
@@ -32,4 +29,4 @@ returns c =
     (p .place .ensures .0, m .move-on .ensures ∙ ap movedOn (p .place .ensures .1))
 
 pub create-spec : {M : Type 1} → statement M
-create-spec = tie.close (tie.spec place-requires move-on-requires same-length returns)
+create-spec = tie.close (tie.spec (λ c κs. search needs) move-on-requires (λ c. search needs) returns)

@@ -1,34 +1,9 @@
 use mathlib.Core.Path.{ap, _∙_}
-use Rattle.tables.specs.Layout.{putT}
-use Rattle.book.specs.Enact.{kindT, maskT, fixedT, quotaT, lenT, entryT}
+use Rattle.tables.specs.Layout.{kindT, maskT, fixedT, quotaT, lenT, entryT, putT}
 use Rattle.book.specs.Make.{numbersFilled}
 use borrow.Author.Needs.{needs}
 use Rattle.book.proofs.make.fill_numbers.Statement.{statement}
 use Rattle.book.proofs.make.fill_numbers.Tie as tie
-
-put64-requires : tie.Need-put64-requires
-put64-requires c κs = search needs
-
-put8-requires : tie.Need-put8-requires
-put8-requires c κs = search needs
-
-put8-requires-2 : tie.Need-put8-requires-2
-put8-requires-2 c κs = search needs
-
-put8-requires-3 : tie.Need-put8-requires-3
-put8-requires-3 c κs = search needs
-
-put16-requires : tie.Need-put16-requires
-put16-requires c κs = search needs
-
-put16-requires-2 : tie.Need-put16-requires-2
-put16-requires-2 c κs = search needs
-
-put64-requires-2 : tie.Need-put64-requires-2
-put64-requires-2 c κs = search needs
-
-same-length : tie.Need-same-length
-same-length c = search needs
 
 returns : tie.Need-returns
 unfolding numbersFilled
@@ -54,12 +29,12 @@ pub fill-numbers-spec : {M : Type 1} → statement M
 fill-numbers-spec =
     tie.close
     (tie.spec
-    put64-requires
-    put8-requires
-    put8-requires-2
-    put8-requires-3
-    put16-requires
-    put16-requires-2
-    put64-requires-2
-    same-length
+    (λ c κs. search needs)
+    (λ c κs. search needs)
+    (λ c κs. search needs)
+    (λ c κs. search needs)
+    (λ c κs. search needs)
+    (λ c κs. search needs)
+    (λ c κs. search needs)
+    (λ c. search needs)
     returns)

@@ -1,24 +1,12 @@
 use mathlib.Core.Path.{ap, _∙_}
 use Prim.Native.Nat.{_*_}
 use Rattle.rules.specs.Kernel.{textSize}
-use Rattle.tables.specs.Layout.{View, view, runT}
-use Rattle.book.specs.Enact.{descriptionT, closureT, relabelled}
+use Rattle.tables.specs.Layout.{View, view, descriptionT, closureT, runT}
+use Rattle.book.specs.Enact.{relabelled}
 use Rattle.book.specs.Laws.Handed.{filled-is}
 use borrow.Author.Needs.{needs}
 use Rattle.book.proofs.make.fill_row.Statement.{statement}
 use Rattle.book.proofs.make.fill_row.Tie as tie
-
-fill-numbers-requires : tie.Need-fill-numbers-requires
-fill-numbers-requires c κs = search needs
-
-relabel-requires : tie.Need-relabel-requires
-relabel-requires c κs = search needs
-
-fill-texts-requires : tie.Need-fill-texts-requires
-fill-texts-requires c κs = search needs
-
-same-length : tie.Need-same-length
-same-length c = search needs
 
 returns : tie.Need-returns
 returns c =
@@ -35,4 +23,4 @@ returns c =
 pub fill-row-spec : {M : Type 1} → statement M
 fill-row-spec =
     tie.close
-    (tie.spec fill-numbers-requires relabel-requires fill-texts-requires same-length returns)
+    (tie.spec (λ c κs. search needs) (λ c κs. search needs) (λ c κs. search needs) (λ c. search needs) returns)

@@ -56,14 +56,4 @@ returns-2 c =
 
 pub free-link-spec : {M : Type 1} → statement M
 free-link-spec =
-    tie.close
-    (tie.spec
-    Inv-loop
-    μ-loop
-    loop-holds
-    get16-requires
-    returns
-    add-l
-    loop-less
-    loop-again
-    returns-2)
+    tie.close (tie.spec Inv-loop μ-loop loop-holds get16-requires returns add-l loop-less loop-again returns-2)

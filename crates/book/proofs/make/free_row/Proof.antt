@@ -56,14 +56,4 @@ returns-2 c =
 
 pub free-row-spec : {M : Type 1} → statement M
 free-row-spec =
-    tie.close
-    (tie.spec
-    Inv-loop
-    μ-loop
-    loop-holds
-    get8-requires
-    returns
-    add-r
-    loop-less
-    loop-again
-    returns-2)
+    tie.close (tie.spec Inv-loop μ-loop loop-holds get8-requires returns add-r loop-less loop-again returns-2)

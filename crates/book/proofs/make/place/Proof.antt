@@ -9,36 +9,12 @@ use borrow.Author.Needs.{needs}
 use Rattle.book.proofs.make.place.Statement.{statement}
 use Rattle.book.proofs.make.place.Tie as tie
 
-free-row-requires : tie.Need-free-row-requires
-free-row-requires c κs = search needs
-
-enum-known-r : tie.Need-enum-known-r
-enum-known-r c = search needs
-
-enum-told : tie.Need-enum-told
-enum-told c = search needs
-
-same-length : tie.Need-same-length
-same-length c = search needs
-
 returns : tie.Need-returns
 returns c =
     let f = c .before .before in
     let s = f .before .before .before .before .before in
     let a = s .args in
     no-row-free (a .c) (objectOf (a .row) (a .description .now) (a .closure .now)) (view (a .b .now)) (sym (f .free-row .ensures) ∙ c .enum-told .given .1)
-
-free-link-requires : tie.Need-free-link-requires
-free-link-requires c κs = search needs
-
-enum-known-l : tie.Need-enum-known-l
-enum-known-l c = search needs
-
-enum-told-2 : tie.Need-enum-told-2
-enum-told-2 c = search needs
-
-same-length-2 : tie.Need-same-length-2
-same-length-2 c = search needs
 
 returns-2 : tie.Need-returns-2
 returns-2 c =
@@ -49,9 +25,6 @@ returns-2 c =
     let a = s .args in
     let row = sym (f .free-row .ensures) ∙ r .r .given .1 in
     no-link-free (a .c) (objectOf (a .row) (a .description .now) (a .closure .now)) (view (a .b .now)) (r .r .given .0 .0) row (sym (k .free-link .ensures) ∙ c .enum-told2 .given .1)
-
-next-requires : tie.Need-next-requires
-next-requires c κs = search needs
 
 fill-row-requires : tie.Need-fill-row-requires
 fill-row-requires c κs =
@@ -73,9 +46,6 @@ fill-link-requires c κs =
     let link = link-low v (l .l .given .0 .0) (sym (k .free-link .ensures) ∙ l .l .given .1) in
     (omega (arith, s .pre .going .whole), link, s .pre .low, row)
 
-same-length-3 : tie.Need-same-length-3
-same-length-3 c = search needs
-
 returns-3 : tie.Need-returns-3
 returns-3 c =
     let w = c .before .before in
@@ -92,7 +62,8 @@ returns-3 c =
     let done = both-free (a .c) (objectOf (a .row) (a .description .now) (a .closure .now)) (view (a .b .now)) (r .r .given .0 .0) (l .l .given .0 .0) row link in (
       done .0,
       w .fill-link .ensures
-          ∙ ap (linkFilled (l .l .given .0 .0) (a .c) (r .r .given .0 .0)) (g .fill-row .ensures ∙ ap (λ (i : ℕ). rowFilled (r .r .given .0 .0) i (objectOf (a .row) (a .description .now) (a .closure .now)) (view (a .b .now))) (n .next .ensures))
+          ∙ ap (linkFilled (l .l .given .0 .0) (a .c) (r .r .given .0 .0))
+          (g .fill-row .ensures ∙ ap (λ (i : ℕ). rowFilled (r .r .given .0 .0) i (objectOf (a .row) (a .description .now) (a .closure .now)) (view (a .b .now))) (n .next .ensures))
           ∙ done .1,
     )
 
@@ -100,18 +71,18 @@ pub place-spec : {M : Type 1} → statement M
 place-spec =
     tie.close
     (tie.spec
-    free-row-requires
-    enum-known-r
-    enum-told
-    same-length
+    (λ c κs. search needs)
+    (λ c. search needs)
+    (λ c. search needs)
+    (λ c. search needs)
     returns
-    free-link-requires
-    enum-known-l
-    enum-told-2
-    same-length-2
+    (λ c κs. search needs)
+    (λ c. search needs)
+    (λ c. search needs)
+    (λ c. search needs)
     returns-2
-    next-requires
+    (λ c κs. search needs)
     fill-row-requires
     fill-link-requires
-    same-length-3
+    (λ c. search needs)
     returns-3)

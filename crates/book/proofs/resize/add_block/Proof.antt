@@ -1,35 +1,16 @@
 use borrow.Author.Needs.{needs}
 use native.Mathlib.Omega.{arith}
 use mathlib.Core.Path.{refl, sym, _∙_, ap}
-use Rattle.tables.specs.Layout.{view, putT}
-use Rattle.book.specs.Enact.{indexT}
+use Rattle.tables.specs.Layout.{view, indexT, putT}
 use Rattle.book.specs.Laws.Cleared.{free-low, added-at, added-nothing}
 use Rattle.book.proofs.resize.add_block.Statement.{statement}
 use Rattle.book.proofs.resize.add_block.Tie as tie
-
-free-block-requires : tie.Need-free-block-requires
-free-block-requires c κs = search needs
-
-enum-known-fresh : tie.Need-enum-known-fresh
-enum-known-fresh c = search needs
-
-enum-told : tie.Need-enum-told
-enum-told c = search needs
-
-same-length : tie.Need-same-length
-same-length c = search needs
 
 returns : tie.Need-returns
 returns c =
     let a = c .before .before .before .before .before .before .args in
     let n = added-nothing (a .r) (a .k) (view (a .b .now)) (a .area .now) (sym (c .before .before .free-block .ensures) ∙ c .enum-told .given .1) in
     (sym (n .0), sym (n .1))
-
-add-put16 : tie.Need-add-put16
-add-put16 c = search needs
-
-cast-put16 : tie.Need-cast-put16
-cast-put16 c = search needs
 
 put16-requires : tie.Need-put16-requires
 put16-requires c κs =
@@ -38,9 +19,6 @@ put16-requires c κs =
     let x = c .before .before .fresh in
     let l = free-low (view b) (x .given .0 .0) (sym (f .ensures) ∙ x .given .1) in
     record { whole = c .before .before .before .before .before .before .before .before .pre .0; table = omega arith; wide = refl; place = l }
-
-cast-put8 : tie.Need-cast-put8
-cast-put8 c = search needs
 
 put8-requires : tie.Need-put8-requires
 put8-requires c κs =
@@ -58,12 +36,6 @@ clear-block-requires c κs =
     let l = free-low (view b) (x .given .0 .0) (sym (f .ensures) ∙ x .given .1) in
     (omega arith, omega arith)
 
-same-length-2 : tie.Need-same-length-2
-same-length-2 c = search needs
-
-same-length-3 : tie.Need-same-length-3
-same-length-3 c = search needs
-
 returns-2 : tie.Need-returns-2
 returns-2 c =
     let a = c .before .before .before .before .before .before .before .before .before .before .before .before .before .before .before .before .before .before .before .args in
@@ -79,17 +51,17 @@ pub add-block-spec : {M : Type 1} → statement M
 add-block-spec =
     tie.close
     (tie.spec
-    free-block-requires
-    enum-known-fresh
-    enum-told
-    same-length
+    (λ c κs. search needs)
+    (λ c. search needs)
+    (λ c. search needs)
+    (λ c. search needs)
     returns
-    add-put16
-    cast-put16
+    (λ c. search needs)
+    (λ c. search needs)
     put16-requires
-    cast-put8
+    (λ c. search needs)
     put8-requires
     clear-block-requires
-    same-length-2
-    same-length-3
+    (λ c. search needs)
+    (λ c. search needs)
     returns-2)

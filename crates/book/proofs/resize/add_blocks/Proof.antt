@@ -21,7 +21,13 @@ loop-holds : tie.Need-loop-holds Inv-loop μ-loop
 loop-holds c = (refl, refl, refl, refl)
 
 add-block-requires : tie.Need-add-block-requires Inv-loop μ-loop
-add-block-requires c κs = (c .before .before .before .loop .inv .0 ∙ c .before .before .before .before .before .before .pre .0, c .before .before .before .loop .inv .1 ∙ c .before .before .before .before .before .before .pre .1, c .before .before .before .before .before .before .pre .2, omega (arith, c .before .before .before .before .before .before .pre .3))
+add-block-requires c κs = (
+  c .before .before .before .loop .inv .0 ∙ c .before .before .before .before .before .before .pre .0,
+  c .before .before .before .loop .inv .1
+      ∙ c .before .before .before .before .before .before .pre .1,
+  c .before .before .before .before .before .before .pre .2,
+  omega (arith, c .before .before .before .before .before .before .pre .3),
+)
 
 add-i : tie.Need-add-i Inv-loop μ-loop
 add-i c = omega arith

@@ -5,22 +5,10 @@ use Rattle.book.specs.Laws.Cleared.{between-less, between-more}
 use Rattle.book.proofs.resize.clear_between.Statement.{statement}
 use Rattle.book.proofs.resize.clear_between.Tie as tie
 
-clear-edge-requires : tie.Need-clear-edge-requires
-clear-edge-requires c κs = search needs
-
-same-length : tie.Need-same-length
-same-length c = search needs
-
 returns : tie.Need-returns
 returns c =
     let a = c .before .before .before .before .before .before .before .args in
     c .before .before .clear-edge .ensures ∙ sym (between-less (a .r) (a .m) (a .n) (view (a .b .now)) (a .area .now) (c .before .before .before .before .if1 .taken))
-
-clear-edge-requires-2 : tie.Need-clear-edge-requires-2
-clear-edge-requires-2 c κs = search needs
-
-same-length-2 : tie.Need-same-length-2
-same-length-2 c = search needs
 
 returns-2 : tie.Need-returns-2
 returns-2 c =
@@ -28,4 +16,4 @@ returns-2 c =
     c .before .before .clear-edge2 .ensures ∙ sym (between-more (a .r) (a .m) (a .n) (view (a .b .now)) (a .area .now) (c .before .before .before .before .if1 .left))
 
 pub clear-between-spec : {M : Type 1} → statement M
-clear-between-spec = tie.close (tie.spec clear-edge-requires same-length returns clear-edge-requires-2 same-length-2 returns-2)
+clear-between-spec = tie.close (tie.spec (λ c κs. search needs) (λ c. search needs) returns (λ c κs. search needs) (λ c. search needs) returns-2)

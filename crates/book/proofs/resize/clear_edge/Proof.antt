@@ -11,15 +11,6 @@ use Rattle.book.specs.Laws.Cleared.{edge-span, edge-at, edge-nothing}
 use Rattle.book.proofs.resize.clear_edge.Statement.{statement}
 use Rattle.book.proofs.resize.clear_edge.Tie as tie
 
-block-of-requires : tie.Need-block-of-requires
-block-of-requires c κs = search needs
-
-enum-known-x : tie.Need-enum-known-x
-enum-known-x c = search needs
-
-enum-told : tie.Need-enum-told
-enum-told c = search needs
-
 returns : tie.Need-returns
 returns c =
     let a = c .before .before .before .before .before .args in
@@ -41,9 +32,6 @@ add-clear-run c =
     let l = first-low blockCount (isBlock (view (a .b .now)) (a .r) (a .lo / blockSize)) (x .given .0 .0) (sym (f .ensures) ∙ x .given .1) in
     omega arith
 
-edge-end-requires : tie.Need-edge-end-requires
-edge-end-requires c κs = search needs
-
 add-clear-run-2 : tie.Need-add-clear-run-2
 add-clear-run-2 c =
     let a = c .before .before .before .before .before .before .before .before .args in
@@ -63,9 +51,6 @@ clear-run-requires c κs =
     let s = edge-span (a .lo) (a .hi) (c .before .before .before .before .before .before .before .before .pre .3) in
     (omega (arith, e .ensures), omega (arith, e .ensures, c .before .before .before .before .before .before .before .before .pre .1))
 
-same-length : tie.Need-same-length
-same-length c = search needs
-
 returns-2 : tie.Need-returns-2
 returns-2 c =
     let a = c .before .before .before .before .before .before .before .before .before .before .before .args in
@@ -82,14 +67,14 @@ pub clear-edge-spec : {M : Type 1} → statement M
 clear-edge-spec =
     tie.close
     (tie.spec
-    block-of-requires
-    enum-known-x
-    enum-told
+    (λ c κs. search needs)
+    (λ c. search needs)
+    (λ c. search needs)
     returns
     mul-base
     add-clear-run
-    edge-end-requires
+    (λ c κs. search needs)
     add-clear-run-2
     clear-run-requires
-    same-length
+    (λ c. search needs)
     returns-2)

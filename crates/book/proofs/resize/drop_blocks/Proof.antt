@@ -2,8 +2,8 @@ use Prim.Native.Nat.{ℕ, _≤_, _-_}
 use native.Mathlib.Omega.{arith}
 use mathlib.Core.Path.{_≡_, refl, _∙_, ap, ap₂}
 use lib.ListN.{length}
-use Rattle.tables.specs.Layout.{view, blockCount}
-use Rattle.tables.specs.Layout.Laws.{owner-long}
+use Rattle.tables.specs.Layout.{view, blockCount, ownerT}
+use Rattle.tables.specs.Layout.Laws.{tabOf-long}
 use Rattle.book.specs.Resize.{blockDropped, blockWiped, droppedTo, wipedTo}
 use Rattle.book.specs.Laws.Cleared.{dropped-none, dropped-more, dropped-all, wiped-none, wiped-more}
 use Rattle.book.proofs.resize.drop_blocks.Statement.{statement}
@@ -20,10 +20,16 @@ loop-holds : tie.Need-loop-holds Inv-loop μ-loop
 loop-holds c =
     let a = c .before .before .args in
     let v = view (a .b .now) in
-    (omega arith, refl, refl, dropped-none (a .r) (a .k) v (owner-long (a .b .now)), wiped-none (a .r) (a .k) v (a .area .now) (c .before .before .pre .1))
+    (omega arith, refl, refl, dropped-none (a .r) (a .k) v (tabOf-long (a .b .now) ownerT), wiped-none (a .r) (a .k) v (a .area .now) (c .before .before .pre .1))
 
 drop-block-requires : tie.Need-drop-block-requires Inv-loop μ-loop
-drop-block-requires c κs = (c .before .before .before .loop .inv .1 ∙ c .before .before .before .before .before .before .pre .0, c .before .before .before .loop .inv .2 ∙ c .before .before .before .before .before .before .pre .1, c .before .before .before .before .before .before .pre .2, omega arith)
+drop-block-requires c κs = (
+  c .before .before .before .loop .inv .1 ∙ c .before .before .before .before .before .before .pre .0,
+  c .before .before .before .loop .inv .2
+      ∙ c .before .before .before .before .before .before .pre .1,
+  c .before .before .before .before .before .before .pre .2,
+  omega arith,
+)
 
 add-x : tie.Need-add-x Inv-loop μ-loop
 add-x c = omega arith
@@ -40,8 +46,8 @@ loop-again c =
       omega arith,
       omega arith,
       omega arith,
-      d .0 ∙ ap (blockDropped (a .r) (a .k) (l .x)) (l .inv .3) ∙ dropped-more (a .r) (a .k) v (owner-long (a .b .now)) (l .x) (omega arith),
-      d .1 ∙ ap₂ (blockWiped (a .r) (a .k) (l .x)) (l .inv .3) (l .inv .4) ∙ wiped-more (a .r) (a .k) v (a .area .now) (l .x) (omega arith) (owner-long (a .b .now)),
+      d .0 ∙ ap (blockDropped (a .r) (a .k) (l .x)) (l .inv .3) ∙ dropped-more (a .r) (a .k) v (tabOf-long (a .b .now) ownerT) (l .x) (omega arith),
+      d .1 ∙ ap₂ (blockWiped (a .r) (a .k) (l .x)) (l .inv .3) (l .inv .4) ∙ wiped-more (a .r) (a .k) v (a .area .now) (l .x) (omega arith) (tabOf-long (a .b .now) ownerT),
     )
 
 same-length : tie.Need-same-length Inv-loop μ-loop
@@ -56,7 +62,7 @@ returns c =
     let l = c .before .loop in
     let v = view (a .b .now) in
     let e : l .x ≡ blockCount = omega arith in (
-      l .inv .3 ∙ ap (λ (i : ℕ). droppedTo i (a .r) (a .k) v) e ∙ dropped-all (a .r) (a .k) v (owner-long (a .b .now)),
+      l .inv .3 ∙ ap (λ (i : ℕ). droppedTo i (a .r) (a .k) v) e ∙ dropped-all (a .r) (a .k) v (tabOf-long (a .b .now) ownerT),
       l .inv .4 ∙ ap (λ (i : ℕ). wipedTo i (a .r) (a .k) v (a .area .now)) e,
     )
 

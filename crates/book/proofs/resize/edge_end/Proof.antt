@@ -8,12 +8,6 @@ use Rattle.book.specs.Laws.Cleared.{if-true, if-false}
 use Rattle.book.proofs.resize.edge_end.Statement.{statement}
 use Rattle.book.proofs.resize.edge_end.Tie as tie
 
-mul-span : tie.Need-mul-span
-mul-span c = search needs
-
-sub-span : tie.Need-sub-span
-sub-span c = search needs
-
 returns : tie.Need-returns
 returns c =
     let a = c .before .args in
@@ -27,4 +21,4 @@ returns-2 c =
     sym (if-false (ltb span blockSize) span blockSize (le-ltb span blockSize (c .if1 .left)))
 
 pub edge-end-spec : {M : Type 1} → statement M
-edge-end-spec = tie.close (tie.spec mul-span sub-span returns returns-2)
+edge-end-spec = tie.close (tie.spec (λ c. search needs) (λ c. search needs) returns returns-2)

@@ -10,47 +10,20 @@ use Rattle.book.specs.Laws.Resize.{resized-area}
 use Rattle.book.proofs.resize.resize.Statement.{statement}
 use Rattle.book.proofs.resize.resize.Tie as tie
 
-get16-requires : tie.Need-get16-requires
-get16-requires c κs = search needs
-
-blocks-of-requires : tie.Need-blocks-of-requires
-blocks-of-requires c κs = search needs
-
-cast-clear-between : tie.Need-cast-clear-between
-cast-clear-between c = search needs
-
-clear-between-requires : tie.Need-clear-between-requires
-clear-between-requires c κs = search needs
-
-drop-blocks-requires : tie.Need-drop-blocks-requires
-drop-blocks-requires c κs = search needs
-
-blocks-of-requires-2 : tie.Need-blocks-of-requires-2
-blocks-of-requires-2 c κs = search needs
-
-add-blocks-requires : tie.Need-add-blocks-requires
-add-blocks-requires c κs = search needs
-
-put16-requires : tie.Need-put16-requires
-put16-requires c κs = search needs
-
-same-length : tie.Need-same-length
-same-length c = search needs
-
-same-length-2 : tie.Need-same-length-2
-same-length-2 c = search needs
-
 returns : tie.Need-returns
 returns c =
-    let a = c .before .before .before .before .before .before .before .before .before .before .before .before .before .before .before .before .before .before .before .before .before .before .before .before .before .before .before .before .before .args in
-    let pre = c .before .before .before .before .before .before .before .before .before .before .before .before .before .before .before .before .before .before .before .before .before .before .before .before .before .before .before .before .before .pre in
+    let up8 = c .before .before .before .before .before .before .before .before in
+    let up16 = up8 .before .before .before .before .before .before .before .before in
+    let up24 = up16 .before .before .before .before .before .before .before .before in
+    let a = up24 .before .before .before .before .before .args in
+    let pre = up24 .before .before .before .before .before .pre in
     let v = view (a .b .now) in
-    let g = c .before .before .before .before .before .before .before .before .before .before .before .before .before .before .before .before .before .before .before .before .before .before .before .before .before .get16 in
-    let m = c .before .before .before .before .before .before .before .before .before .before .before .before .before .before .before .before .before .before .before .before .before .before .before .before .blocks-of in
-    let k = c .before .before .before .before .before .before .before .before .before .blocks-of2 in
-    let w = c .before .before .before .before .before .before .before .before .before .before .before .before .before .before .before .before .before .before .before .before .before .clear-between in
-    let d = c .before .before .before .before .before .before .before .before .before .before .before .before .before .before .before .before .drop-blocks in
-    let e = c .before .before .before .before .before .before .before .before .add-blocks in
+    let g = up24 .before .get16 in
+    let m = up24 .blocks-of in
+    let k = up8 .before .blocks-of2 in
+    let w = up16 .before .before .before .before .before .clear-between in
+    let d = up16 .drop-blocks in
+    let e = up8 .add-blocks in
     let p = c .before .before .put16 in
     let (book, area) = resize-made (a .r) (a .n) v (view (d .last .0)) (view (e .last .0)) (view (p .last .0)) (a .area .now) (w .last .1 .0) (d .last .1 .0) (e .last .1 .0)
     (g .result) (k .result) (m .result) (g .ensures) (m .ensures .0) (k .ensures .0) (w .ensures) (d .ensures .0) (d .ensures .1) (e .ensures .0) (e .ensures .1) (p .ensures) in
@@ -61,14 +34,14 @@ pub resize-spec : {M : Type 1} → statement M
 resize-spec =
     tie.close
     (tie.spec
-    get16-requires
-    blocks-of-requires
-    cast-clear-between
-    clear-between-requires
-    drop-blocks-requires
-    blocks-of-requires-2
-    add-blocks-requires
-    put16-requires
-    same-length
-    same-length-2
+    (λ c κs. search needs)
+    (λ c κs. search needs)
+    (λ c. search needs)
+    (λ c κs. search needs)
+    (λ c κs. search needs)
+    (λ c κs. search needs)
+    (λ c κs. search needs)
+    (λ c κs. search needs)
+    (λ c. search needs)
+    (λ c. search needs)
     returns)

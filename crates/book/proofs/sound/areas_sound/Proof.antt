@@ -5,9 +5,6 @@ use Rattle.book.specs.Test.{areasB}
 use Rattle.book.proofs.sound.areas_sound.Statement.{statement}
 use Rattle.book.proofs.sound.areas_sound.Tie as tie
 
-is-whole-requires : tie.Need-is-whole-requires
-is-whole-requires c κs = search needs
-
 returns : tie.Need-returns
 unfolding areasB
 returns c = rw (sym (c .before .is-whole .ensures) ∙ not-true _ (c .if1 .taken))
@@ -26,10 +23,4 @@ returns-3 c =
 
 pub areas-sound-spec : {M : Type 1} → statement M
 areas-sound-spec =
-    tie.close
-    (tie.spec
-    is-whole-requires
-    returns
-    returns-2
-    tables-ok-requires
-    returns-3)
+    tie.close (tie.spec (λ c κs. search needs) returns returns-2 tables-ok-requires returns-3)

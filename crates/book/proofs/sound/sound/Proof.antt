@@ -5,9 +5,6 @@ use Rattle.book.specs.Test.{bookB}
 use Rattle.book.proofs.sound.sound.Statement.{statement}
 use Rattle.book.proofs.sound.sound.Tie as tie
 
-is-whole-requires : tie.Need-is-whole-requires
-is-whole-requires c κs = search needs
-
 returns : tie.Need-returns
 unfolding bookB
 returns c = rw (sym (c .before .is-whole .ensures) ∙ not-true _ (c .if1 .taken))
@@ -20,4 +17,4 @@ unfolding bookB
 returns-2 c = rw (sym (c .before .before .is-whole .ensures) ∙ not-false _ (c .before .if1 .left)) (c .tables-ok .ensures)
 
 pub sound-spec : {M : Type 1} → statement M
-sound-spec = tie.close (tie.spec is-whole-requires returns tables-ok-requires returns-2)
+sound-spec = tie.close (tie.spec (λ c κs. search needs) returns tables-ok-requires returns-2)

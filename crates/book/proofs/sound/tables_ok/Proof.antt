@@ -5,9 +5,6 @@ use Rattle.book.specs.Test.{soundB}
 use Rattle.book.proofs.sound.tables_ok.Statement.{statement}
 use Rattle.book.proofs.sound.tables_ok.Tie as tie
 
-rows-ok-requires : tie.Need-rows-ok-requires
-rows-ok-requires c κs = search needs
-
 returns : tie.Need-returns
 unfolding soundB
 returns c = rw (sym (c .before .rows-ok .ensures) ∙ not-true _ (c .if1 .taken))
@@ -20,21 +17,15 @@ unfolding soundB
 returns-2 c =
     rw (sym (c .before .before .before .rows-ok .ensures) ∙ not-false _ (c .before .before .if1 .left), sym (c .before .links-ok .ensures) ∙ not-true _ (c .if2 .taken))
 
-blocks-ok-requires : tie.Need-blocks-ok-requires
-blocks-ok-requires c κs = search needs
-
 returns-3 : tie.Need-returns-3
 unfolding soundB
 returns-3 c =
-    rw (sym (c .before .before .before .before .rows-ok .ensures) ∙ not-false _ (c .before .before .before .if1 .left), sym (c .before .before .links-ok .ensures) ∙ not-false _ (c .before .if2 .left)) (c .blocks-ok .ensures)
+    rw (
+      sym (c .before .before .before .before .rows-ok .ensures) ∙ not-false _ (c .before .before .before .if1 .left),
+      sym (c .before .before .links-ok .ensures) ∙ not-false _
+          (c .before .if2 .left),
+    ) (c .blocks-ok .ensures)
 
 pub tables-ok-spec : {M : Type 1} → statement M
 tables-ok-spec =
-    tie.close
-    (tie.spec
-    rows-ok-requires
-    returns
-    links-ok-requires
-    returns-2
-    blocks-ok-requires
-    returns-3)
+    tie.close (tie.spec (λ c κs. search needs) returns links-ok-requires returns-2 (λ c κs. search needs) returns-3)

@@ -34,7 +34,8 @@ block-ok-requires c κs =
 
 returns : tie.Need-returns Inv-loop μ-loop
 returns c =
-    sym (blocks-fail (view (c .before .before .before .before .before .before .args .b .now)) (c .before .before .before .before .loop .i) (c .before .before .before .loop-test .taken) (sym (c .before .block-ok .ensures .0) ∙ not-true _ (c .if1 .taken)))
+    sym (blocks-fail (view (c .before .before .before .before .before .before .args .b .now)) (c .before .before .before .before .loop .i)
+    (c .before .before .before .loop-test .taken) (sym (c .before .block-ok .ensures .0) ∙ not-true _ (c .if1 .taken)))
 
 used-requires : tie.Need-used-requires Inv-loop μ-loop
 used-requires c κs = search needs
@@ -52,8 +53,14 @@ loop-again : tie.Need-loop-again Inv-loop μ-loop
 loop-again c =
     let v = view (c .before .before .before .before .before .before .before .args .b .now) in
     let turn = c .before .before .before .before .before .loop in
-    let good : c .before .before .block-ok .result ≡ true = not-false _ (c .before .if1 .left) in
-    (omega arith, omega (arith, used-more v (turn .i), turn .inv .1, c .used .ensures .0), omega (arith, turn .inv .2, c .used .ensures .1), every-more (turn .i) (blockB v) (turn .inv .3) (sym (c .before .before .block-ok .ensures .0) ∙ good), c .before .before .block-ok .ensures .1 good)
+    let good : c .before .before .block-ok .result ≡ true = not-false _ (c .before .if1 .left) in (
+      omega arith,
+      omega (arith, used-more v (turn .i), turn .inv .1, c .used .ensures .0),
+      omega (arith, turn .inv .2, c .used .ensures .1),
+      every-more (turn .i) (blockB v)
+          (turn .inv .3) (sym (c .before .before .block-ok .ensures .0) ∙ good),
+      c .before .before .block-ok .ensures .1 good,
+    )
 
 returns-2 : tie.Need-returns-2 Inv-loop μ-loop
 returns-2 c =
@@ -64,16 +71,4 @@ returns-2 c =
 
 pub each-ok-spec : {M : Type 1} → statement M
 each-ok-spec =
-    tie.close
-    (tie.spec
-    Inv-loop
-    μ-loop
-    loop-holds
-    block-ok-requires
-    returns
-    used-requires
-    add-sum
-    add-i
-    loop-less
-    loop-again
-    returns-2)
+    tie.close (tie.spec Inv-loop μ-loop loop-holds block-ok-requires returns used-requires add-sum add-i loop-less loop-again returns-2)

@@ -5,18 +5,9 @@ use Rattle.quotas.specs.Sum.{when}
 use Rattle.book.proofs.sound_blocks.needed.Statement.{statement}
 use Rattle.book.proofs.sound_blocks.needed.Tie as tie
 
-get8-requires : tie.Need-get8-requires
-get8-requires c κs = search needs
-
 returns : tie.Need-returns
 unfolding when
 returns c = (rw (← c .before .get8 .ensures, ne-eqb _ _ (c .if1 .taken)), omega arith)
-
-get16-requires : tie.Need-get16-requires
-get16-requires c κs = search needs
-
-blocks-of-requires : tie.Need-blocks-of-requires
-blocks-of-requires c κs = search needs
 
 returns-2 : tie.Need-returns-2
 unfolding when
@@ -24,4 +15,4 @@ returns-2 c =
     (rw (← c .before .before .before .get8 .ensures, eq-eqb _ _ (c .before .before .if1 .left), ← c .before .get16 .ensures) (c .blocks-of .ensures .0), c .blocks-of .ensures .1)
 
 pub needed-spec : {M : Type 1} → statement M
-needed-spec = tie.close (tie.spec get8-requires returns get16-requires blocks-of-requires returns-2)
+needed-spec = tie.close (tie.spec (λ c κs. search needs) returns (λ c κs. search needs) (λ c κs. search needs) returns-2)

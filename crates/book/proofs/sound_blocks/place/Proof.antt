@@ -44,8 +44,13 @@ loop-less c = omega arith
 loop-again : tie.Need-loop-again Inv-loop μ-loop
 loop-again c =
     let v = view (c .before .before .before .before .args .b .now) in
-    let turn = c .before .before .loop in
-    (omega arith, omega (arith, offset-more v (turn .i), turn .inv .1, c .needed .ensures .0), omega (arith, turn .inv .2, c .needed .ensures .1), offsets-more v (turn .i) (turn .offsets) (turn .inv .3) (c .before .loop-test .taken) (twoBytes (turn .sum)) (ap twoBytes (turn .inv .1)))
+    let turn = c .before .before .loop in (
+      omega arith,
+      omega (arith, offset-more v (turn .i), turn .inv .1, c .needed .ensures .0),
+      omega (arith, turn .inv .2, c .needed .ensures .1),
+      offsets-more v (turn .i)
+          (turn .offsets) (turn .inv .3) (c .before .loop-test .taken) (twoBytes (turn .sum)) (ap twoBytes (turn .inv .1)),
+    )
 
 returns : tie.Need-returns Inv-loop μ-loop
 returns c =

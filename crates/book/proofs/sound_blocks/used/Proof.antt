@@ -5,9 +5,6 @@ use Rattle.quotas.specs.Sum.{when}
 use Rattle.book.proofs.sound_blocks.used.Statement.{statement}
 use Rattle.book.proofs.sound_blocks.used.Tie as tie
 
-get16-requires : tie.Need-get16-requires
-get16-requires c κs = search needs
-
 returns : tie.Need-returns
 unfolding when
 returns c = (rw (← c .before .get16 .ensures, eq-eqb _ _ (c .if1 .taken)), omega arith)
@@ -17,4 +14,4 @@ unfolding when
 returns-2 c = (rw (← c .before .get16 .ensures, ne-eqb _ _ (c .if1 .left)), omega arith)
 
 pub used-spec : {M : Type 1} → statement M
-used-spec = tie.close (tie.spec get16-requires returns returns-2)
+used-spec = tie.close (tie.spec (λ c κs. search needs) returns returns-2)

@@ -25,7 +25,8 @@ same-requires c κs = search needs
 returns : tie.Need-returns Inv-loop μ-loop
 returns c =
     let s = c .before .before .before .before .before in
-    sym (every-fails (s .args .l) (λ m. not (sameB (view (s .args .b .now)) (s .args .l) m)) (c .before .before .before .loop .i) (c .before .before .loop-test .taken) (ap not (sym (c .before .same .ensures) ∙ c .if1 .taken)))
+    sym (every-fails (s .args .l) (λ m. not (sameB (view (s .args .b .now)) (s .args .l) m)) (c .before .before .before .loop .i) (c .before .before .loop-test .taken)
+    (ap not (sym (c .before .same .ensures) ∙ c .if1 .taken)))
 
 add-i : tie.Need-add-i Inv-loop μ-loop
 add-i c = omega arith
@@ -48,14 +49,4 @@ returns-2 c =
 
 pub link-new-spec : {M : Type 1} → statement M
 link-new-spec =
-    tie.close
-    (tie.spec
-    Inv-loop
-    μ-loop
-    loop-holds
-    same-requires
-    returns
-    add-i
-    loop-less
-    loop-again
-    returns-2)
+    tie.close (tie.spec Inv-loop μ-loop loop-holds same-requires returns add-i loop-less loop-again returns-2)

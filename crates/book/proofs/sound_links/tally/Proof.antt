@@ -30,21 +30,38 @@ link-ok-requires : tie.Need-link-ok-requires Inv-loop μ-loop
 link-ok-requires c κs = search needs
 
 returns : tie.Need-returns Inv-loop μ-loop
-returns c =
-    (sym (tally-astray (view (c .before .before .before .before .before .args .b .now)) (c .before .before .before .loop .i) (c .before .before .loop-test .taken) (sym (c .before .link-ok .ensures) ∙ not-true _ (c .if1 .taken))), λ e. absurd (no-true e))
+returns c = (
+  sym (tally-astray (view (c .before .before .before .before .before .args .b .now)) (c .before .before .before .loop .i) (c .before .before .loop-test .taken)
+      (sym (c .before .link-ok .ensures) ∙ not-true _ (c .if1 .taken))),
+  λ e. absurd (no-true e),
+)
 
 once-requires : tie.Need-once-requires Inv-loop μ-loop
-once-requires c κs =
-    (c .before .before .before .before .before .before .pre .0, c .before .before .before .loop-test .taken, sym (c .before .before .link-ok .ensures) ∙ not-false _ (c .before .if1 .left), c .before .before .before .before .loop .inv .3 .links)
+once-requires c κs = (
+  c .before .before .before .before .before .before .pre .0,
+  c .before .before .before .loop-test .taken,
+  sym (c .before .before .link-ok .ensures) ∙ not-false _
+      (c .before .if1 .left),
+  c .before .before .before .before .loop .inv .3 .links,
+)
 
 returns-2 : tie.Need-returns-2 Inv-loop μ-loop
-returns-2 c =
-    (sym (tally-twice (view (c .before .before .before .before .before .before .before .before .args .b .now)) (c .before .before .before .before .before .before .loop .i) (c .before .before .before .before .before .loop-test .taken) (sym (c .before .once .ensures) ∙ not-true _ (c .if2 .taken))), λ e. absurd (no-true e))
+returns-2 c = (
+  sym (tally-twice (view (c .before .before .before .before .before .before .before .before .args .b .now)) (c .before .before .before .before .before .before .loop .i)
+      (c .before .before .before .before .before .loop-test .taken) (sym (c .before .once .ensures) ∙ not-true _ (c .if2 .taken))),
+  λ e. absurd (no-true e),
+)
 
 add-link-requires : tie.Need-add-link-requires Inv-loop μ-loop
 add-link-requires c κs =
-    let s = c .before .before .before .before .before .before .before .before .before .before in
-    (s .pre .0, c .before .before .before .before .before .before .before .loop-test .taken, s .pre .1, sym (c .before .before .before .before .before .before .link-ok .ensures) ∙ not-false _ (c .before .before .before .before .before .if1 .left), c .before .before .before .before .before .before .before .before .loop .inv .3)
+    let s = c .before .before .before .before .before .before .before .before .before .before in (
+      s .pre .0,
+      c .before .before .before .before .before .before .before .loop-test .taken,
+      s .pre .1,
+      sym (c .before .before .before .before .before .before .link-ok .ensures)
+          ∙ not-false _ (c .before .before .before .before .before .if1 .left),
+      c .before .before .before .before .before .before .before .before .loop .inv .3,
+    )
 
 add-i : tie.Need-add-i Inv-loop μ-loop
 add-i c = omega arith
@@ -55,8 +72,14 @@ loop-less c = omega arith
 loop-again : tie.Need-loop-again Inv-loop μ-loop
 loop-again c =
     let v = view (c .before .before .before .before .before .before .before .before .before .before .before .args .b .now) in
-    let turn = c .before .before .before .before .before .before .before .before .before .loop in
-    (omega arith, every-more (turn .i) (linkB v) (turn .inv .1) (sym (c .before .before .before .before .before .before .before .link-ok .ensures) ∙ not-false _ (c .before .before .before .before .before .before .if1 .left)), every-more (turn .i) (onceB v (linksTo v)) (turn .inv .2) (sym (c .before .before .before .before .once .ensures) ∙ not-false _ (c .before .before .before .if2 .left)), c .add-link .ensures)
+    let turn = c .before .before .before .before .before .before .before .before .before .loop in (
+      omega arith,
+      every-more (turn .i) (linkB v) (turn .inv .1)
+          (sym (c .before .before .before .before .before .before .before .link-ok .ensures) ∙ not-false _ (c .before .before .before .before .before .before .if1 .left)),
+      every-more
+          (turn .i) (onceB v (linksTo v)) (turn .inv .2) (sym (c .before .before .before .before .once .ensures) ∙ not-false _ (c .before .before .before .if2 .left)),
+      c .add-link .ensures,
+    )
 
 returns-3 : tie.Need-returns-3 Inv-loop μ-loop
 returns-3 c =

@@ -40,7 +40,8 @@ returns c =
     let v = view (s .args .b .now) in
     let test = c .before .before .before .before .loop-test in
     let turn = c .before .before .before .before .before .loop in
-    sym (every-fails rowCount (λ r. tieB v r (linksTo v r) (chargedTo v r)) (turn .i) (test .taken) (sym (tie-end v (s .args .counts .now) (s .args .charges .now) (s .pre .1) (turn .i) (test .taken)) ∙ sym (c .before .tie-ok .ensures) ∙ not-true _ (c .if1 .taken)))
+    sym (every-fails rowCount (λ r. tieB v r (linksTo v r) (chargedTo v r)) (turn .i) (test .taken)
+    (sym (tie-end v (s .args .counts .now) (s .args .charges .now) (s .pre .1) (turn .i) (test .taken)) ∙ sym (c .before .tie-ok .ensures) ∙ not-true _ (c .if1 .taken)))
 
 add-i : tie.Need-add-i Inv-loop μ-loop
 add-i c = omega arith
@@ -52,8 +53,12 @@ loop-again : tie.Need-loop-again Inv-loop μ-loop
 loop-again c =
     let s = c .before .before .before .before .before .before .before in
     let v = view (s .args .b .now) in
-    let turn = c .before .before .before .before .before .loop in
-    (omega arith, every-more (turn .i) (λ r. tieB v r (linksTo v r) (chargedTo v r)) (turn .inv .1) (sym (tie-end v (s .args .counts .now) (s .args .charges .now) (s .pre .1) (turn .i) (c .before .before .before .before .loop-test .taken)) ∙ sym (c .before .tie-ok .ensures) ∙ not-false _ (c .if1 .left)))
+    let turn = c .before .before .before .before .before .loop in (
+      omega arith,
+      every-more (turn .i) (λ r. tieB v r (linksTo v r) (chargedTo v r)) (turn .inv .1)
+          (sym (tie-end v (s .args .counts .now) (s .args .charges .now) (s .pre .1) (turn .i) (c .before .before .before .before .loop-test .taken)) ∙ sym (c .before .tie-ok .ensures)
+          ∙ not-false _ (c .if1 .left)),
+    )
 
 returns-2 : tie.Need-returns-2 Inv-loop μ-loop
 returns-2 c =

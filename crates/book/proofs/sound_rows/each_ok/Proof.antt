@@ -26,7 +26,8 @@ row-ok-requires c κs = (c .before .before .before .before .pre .0, c .before .l
 
 returns : tie.Need-returns Inv-loop μ-loop
 returns c =
-    sym (every-fails rowCount (rowB (view (c .before .before .before .before .before .before .args .b .now))) (c .before .before .before .before .loop .i) (c .before .before .before .loop-test .taken) (sym (c .before .row-ok .ensures .0) ∙ not-true _ (c .if1 .taken)))
+    sym (every-fails rowCount (rowB (view (c .before .before .before .before .before .before .args .b .now))) (c .before .before .before .before .loop .i)
+    (c .before .before .before .loop-test .taken) (sym (c .before .row-ok .ensures .0) ∙ not-true _ (c .if1 .taken)))
 
 add-i : tie.Need-add-i Inv-loop μ-loop
 add-i c = omega arith
@@ -38,8 +39,12 @@ loop-again : tie.Need-loop-again Inv-loop μ-loop
 loop-again c =
     let at-if1 = c .if1 in
     let at-row-ok = c .before .row-ok in
-    let turn = c .before .before .before .before .loop in
-    (omega arith, every-more (turn .i) (rowB (view (c .before .before .before .before .before .before .args .b .now))) (turn .inv .1) (sym (at-row-ok .ensures .0) ∙ not-false _ (at-if1 .left)), at-row-ok .ensures .1 (not-false _ (at-if1 .left)))
+    let turn = c .before .before .before .before .loop in (
+      omega arith,
+      every-more (turn .i) (rowB (view (c .before .before .before .before .before .before .args .b .now))) (turn .inv .1)
+          (sym (at-row-ok .ensures .0) ∙ not-false _ (at-if1 .left)),
+      at-row-ok .ensures .1 (not-false _ (at-if1 .left)),
+    )
 
 returns-2 : tie.Need-returns-2 Inv-loop μ-loop
 returns-2 c =
@@ -49,14 +54,4 @@ returns-2 c =
 
 pub each-ok-spec : {M : Type 1} → statement M
 each-ok-spec =
-    tie.close
-    (tie.spec
-    Inv-loop
-    μ-loop
-    loop-holds
-    row-ok-requires
-    returns
-    add-i
-    loop-less
-    loop-again
-    returns-2)
+    tie.close (tie.spec Inv-loop μ-loop loop-holds row-ok-requires returns add-i loop-less loop-again returns-2)

@@ -26,7 +26,8 @@ has-id-requires c κs = search needs
 returns : tie.Need-returns Inv-loop μ-loop
 returns c =
     let s = c .before .before .before .before .before in
-    sym (every-fails (s .args .n) (λ r. not (hasId (view (s .args .b .now)) (s .args .id) r)) (c .before .before .before .loop .i) (c .before .before .loop-test .taken) (ap not (sym (c .before .has-id .ensures) ∙ c .if1 .taken)))
+    sym (every-fails (s .args .n) (λ r. not (hasId (view (s .args .b .now)) (s .args .id) r)) (c .before .before .before .loop .i) (c .before .before .loop-test .taken)
+    (ap not (sym (c .before .has-id .ensures) ∙ c .if1 .taken)))
 
 add-i : tie.Need-add-i Inv-loop μ-loop
 add-i c = omega arith
@@ -49,14 +50,4 @@ returns-2 c =
 
 pub id-absent-spec : {M : Type 1} → statement M
 id-absent-spec =
-    tie.close
-    (tie.spec
-    Inv-loop
-    μ-loop
-    loop-holds
-    has-id-requires
-    returns
-    add-i
-    loop-less
-    loop-again
-    returns-2)
+    tie.close (tie.spec Inv-loop μ-loop loop-holds has-id-requires returns add-i loop-less loop-again returns-2)

@@ -11,26 +11,17 @@ use Rattle.book.specs.Laws.Marks.{marked-again, marked-more, unmarked-ne
 use Rattle.book.proofs.sound_rows.id_new.Statement.{statement}
 use Rattle.book.proofs.sound_rows.id_new.Tie as tie
 
-mark-of-requires : tie.Need-mark-of-requires
-mark-of-requires c κs = search needs
-
-has-mark-requires : tie.Need-has-mark-requires
-has-mark-requires c κs = search needs
-
-set-mark-requires : tie.Need-set-mark-requires
-set-mark-requires c κs = search needs
-
 returns : tie.Need-returns
 returns c =
     let s = c .before .before .before .before .before .before .before in
     let v = view (s .args .b .now) in
     let at-mark = c .before .before .before .before .before .mark-of in
     let place : at-mark .result ≡ markPlace (idOf v (s .args .r)) = at-mark .ensures .0 ∙ ap markPlace (s .pre .2) in
-    let off = sym (c .before .before .before .has-mark .ensures) ∙ not-true _ (c .before .before .if1 .taken) in
-    (sym (unmarked-new v (s .args .r) (s .args .marks .now) (s .pre .3) (at-mark .result) place off), subst (Marked v (s .args .r + 1)) (sym (c .set-mark .ensures)) (marked-more v (s .args .r) (s .args .marks .now) (s .pre .3) (at-mark .result) place (at-mark .ensures .1)))
-
-id-absent-requires : tie.Need-id-absent-requires
-id-absent-requires c κs = search needs
+    let off = sym (c .before .before .before .has-mark .ensures) ∙ not-true _ (c .before .before .if1 .taken) in (
+      sym (unmarked-new v (s .args .r) (s .args .marks .now) (s .pre .3) (at-mark .result) place off),
+      subst (Marked v (s .args .r + 1)) (sym (c .set-mark .ensures))
+          (marked-more v (s .args .r) (s .args .marks .now) (s .pre .3) (at-mark .result) place (at-mark .ensures .1)),
+    )
 
 returns-2 : tie.Need-returns-2
 unfolding newB
@@ -44,11 +35,4 @@ returns-2 c =
 
 pub id-new-spec : {M : Type 1} → statement M
 id-new-spec =
-    tie.close
-    (tie.spec
-    mark-of-requires
-    has-mark-requires
-    set-mark-requires
-    returns
-    id-absent-requires
-    returns-2)
+    tie.close (tie.spec (λ c κs. search needs) (λ c κs. search needs) (λ c κs. search needs) returns (λ c κs. search needs) returns-2)

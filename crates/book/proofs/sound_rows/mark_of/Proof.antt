@@ -3,12 +3,9 @@ use Rattle.book.specs.Marks.{markPlace}
 use Rattle.book.proofs.sound_rows.mark_of.Statement.{statement}
 use Rattle.book.proofs.sound_rows.mark_of.Tie as tie
 
-rem-result : tie.Need-rem-result
-rem-result c = search needs
-
 returns : tie.Need-returns
 unfolding markPlace
 returns c = search needs
 
 pub mark-of-spec : {M : Type 1} → statement M
-mark-of-spec = tie.close (tie.spec rem-result returns)
+mark-of-spec = tie.close (tie.spec (λ c. search needs) returns)

@@ -5,9 +5,6 @@ use Rattle.book.specs.Test.{rangeN}
 use Rattle.book.proofs.sound_rows.range.Statement.{statement}
 use Rattle.book.proofs.sound_rows.range.Tie as tie
 
-thread-or-gate-requires : tie.Need-thread-or-gate-requires
-thread-or-gate-requires c κs = search needs
-
 returns : tie.Need-returns
 unfolding rangeN
 returns c = rw (sym (c .before .thread-or-gate .ensures) ∙ c .if1 .taken)
@@ -23,32 +20,51 @@ returns-3 c = rw (sym (c .before .before .before .thread-or-gate .ensures) ∙ c
 returns-4 : tie.Need-returns-4
 unfolding rangeN
 returns-4 c =
-    rw (sym (c .before .before .before .before .before .thread-or-gate .ensures) ∙ c .before .before .before .before .if1 .left, le-leb _ _ (c .before .before .before .if2 .left), le-leb _ _ (c .before .before .if3 .left), eq-eqb _ _ (c .before .if4 .taken), lt-leb _ _ (c .if5 .taken))
+    rw (
+      sym (c .before .before .before .before .before .thread-or-gate .ensures) ∙ c .before .before .before .before .if1 .left,
+      le-leb _ _
+          (c .before .before .before .if2 .left),
+      le-leb _ _ (c .before .before .if3 .left),
+      eq-eqb _ _ (c .before .if4 .taken),
+      lt-leb _ _ (c .if5 .taken),
+    )
 
 returns-5 : tie.Need-returns-5
 unfolding rangeN
 returns-5 c =
-    rw (sym (c .before .before .before .before .before .thread-or-gate .ensures) ∙ c .before .before .before .before .if1 .left, le-leb _ _ (c .before .before .before .if2 .left), le-leb _ _ (c .before .before .if3 .left), eq-eqb _ _ (c .before .if4 .taken), le-leb _ _ (c .if5 .left))
+    rw (
+      sym (c .before .before .before .before .before .thread-or-gate .ensures) ∙ c .before .before .before .before .if1 .left,
+      le-leb _ _
+          (c .before .before .before .if2 .left),
+      le-leb _ _ (c .before .before .if3 .left),
+      eq-eqb _ _ (c .before .if4 .taken),
+      le-leb _ _ (c .if5 .left),
+    )
 
 returns-6 : tie.Need-returns-6
 unfolding rangeN
 returns-6 c =
-    rw (sym (c .before .before .before .before .before .thread-or-gate .ensures) ∙ c .before .before .before .before .if1 .left, le-leb _ _ (c .before .before .before .if2 .left), le-leb _ _ (c .before .before .if3 .left), ne-eqb _ _ (c .before .if4 .left), eq-eqb _ _ (c .if6 .taken))
+    rw (
+      sym (c .before .before .before .before .before .thread-or-gate .ensures) ∙ c .before .before .before .before .if1 .left,
+      le-leb _ _
+          (c .before .before .before .if2 .left),
+      le-leb _ _ (c .before .before .if3 .left),
+      ne-eqb _ _ (c .before .if4 .left),
+      eq-eqb _ _ (c .if6 .taken),
+    )
 
 returns-7 : tie.Need-returns-7
 unfolding rangeN
 returns-7 c =
-    rw (sym (c .before .before .before .before .before .thread-or-gate .ensures) ∙ c .before .before .before .before .if1 .left, le-leb _ _ (c .before .before .before .if2 .left), le-leb _ _ (c .before .before .if3 .left), ne-eqb _ _ (c .before .if4 .left), ne-eqb _ _ (c .if6 .left))
+    rw (
+      sym (c .before .before .before .before .before .thread-or-gate .ensures) ∙ c .before .before .before .before .if1 .left,
+      le-leb _ _
+          (c .before .before .before .if2 .left),
+      le-leb _ _ (c .before .before .if3 .left),
+      ne-eqb _ _ (c .before .if4 .left),
+      ne-eqb _ _ (c .if6 .left),
+    )
 
 pub range-spec : {M : Type 1} → statement M
 range-spec =
-    tie.close
-    (tie.spec
-    thread-or-gate-requires
-    returns
-    returns-2
-    returns-3
-    returns-4
-    returns-5
-    returns-6
-    returns-7)
+    tie.close (tie.spec (λ c κs. search needs) returns returns-2 returns-3 returns-4 returns-5 returns-6 returns-7)

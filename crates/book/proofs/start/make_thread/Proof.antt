@@ -11,15 +11,6 @@ use borrow.Author.Needs.{needs}
 use Rattle.book.proofs.start.make_thread.Statement.{statement}
 use Rattle.book.proofs.start.make_thread.Tie as tie
 
-thread-row-requires : tie.Need-thread-row-requires
-thread-row-requires c κs = search needs
-
-slice-aggregate-fill-row : tie.Need-slice-aggregate-fill-row
-slice-aggregate-fill-row c = search needs
-
-slice-aggregate-fill-row-2 : tie.Need-slice-aggregate-fill-row-2
-slice-aggregate-fill-row-2 c = search needs
-
 fill-row-requires : tie.Need-fill-row-requires
 fill-row-requires c κs =
     let t = c .before .before in
@@ -30,12 +21,6 @@ fill-row-requires c κs =
       handed = subst (λ (n : NewRow). Handed n (replicate textSize 0) (replicate textSize 0)) (sym (t .thread-row .ensures)) first-handed;
     }
 
-fill-link-requires : tie.Need-fill-link-requires
-fill-link-requires c κs = search needs
-
-same-length : tie.Need-same-length
-same-length c = search needs
-
 returns : tie.Need-returns
 unfolding threadMade
 returns c =
@@ -44,16 +29,17 @@ returns c =
     let t = w .before .before .before in
     let s = t .before .before .before in
     k .fill-link .ensures
-    ∙ ap (linkFilled 0 0 1) (w .fill-row .ensures ∙ ap (λ (n : NewRow). rowFilled 1 (s .args .id) (objectOf n (replicate textSize 0) (replicate textSize 0)) (view (s .args .b .now))) (t .thread-row .ensures))
+    ∙ ap (linkFilled 0 0 1) (w .fill-row .ensures ∙ ap (λ (n : NewRow). rowFilled 1 (s .args .id) (objectOf n (replicate textSize 0) (replicate textSize 0))
+    (view (s .args .b .now))) (t .thread-row .ensures))
 
 pub make-thread-spec : {M : Type 1} → statement M
 make-thread-spec =
     tie.close
     (tie.spec
-    thread-row-requires
-    slice-aggregate-fill-row
-    slice-aggregate-fill-row-2
+    (λ c κs. search needs)
+    (λ c. search needs)
+    (λ c. search needs)
     fill-row-requires
-    fill-link-requires
-    same-length
+    (λ c κs. search needs)
+    (λ c. search needs)
     returns)

@@ -9,9 +9,6 @@ use borrow.Author.Needs.{needs}
 use Rattle.book.proofs.start.start.Statement.{statement}
 use Rattle.book.proofs.start.start.Tie as tie
 
-clear-all-requires : tie.Need-clear-all-requires
-clear-all-requires c κs = search needs
-
 make-root-requires : tie.Need-make-root-requires
 make-root-requires c κs =
     let s = c .before .before .before .before .before .before .before in
@@ -21,15 +18,6 @@ add-make-thread : tie.Need-add-make-thread
 add-make-thread c =
     let s = c .before .before .before .before .before .before .before .before .before .before .before in
     omega (arith, startable-low (s .args .first) (s .pre .2))
-
-make-thread-requires : tie.Need-make-thread-requires
-make-thread-requires c κs = search needs
-
-same-length : tie.Need-same-length
-same-length c = search needs
-
-same-length-2 : tie.Need-same-length-2
-same-length-2 c = search needs
 
 returns : tie.Need-returns
 unfolding startArea
@@ -47,10 +35,10 @@ pub start-spec : {M : Type 1} → statement M
 start-spec =
     tie.close
     (tie.spec
-    clear-all-requires
+    (λ c κs. search needs)
     make-root-requires
     add-make-thread
-    make-thread-requires
-    same-length
-    same-length-2
+    (λ c κs. search needs)
+    (λ c. search needs)
+    (λ c. search needs)
     returns)

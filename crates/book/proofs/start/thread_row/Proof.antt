@@ -3,14 +3,8 @@ use Rattle.rules.specs.Kernel.{threadCode}
 use Rattle.book.proofs.start.thread_row.Statement.{statement}
 use Rattle.book.proofs.start.thread_row.Tie as tie
 
-of-default-requires : tie.Need-of-default-requires
-of-default-requires c κs = search needs
-
-of-default-requires-2 : tie.Need-of-default-requires-2
-of-default-requires-2 c κs = search needs
-
 returns : tie.Need-returns
 returns c = λ i. record { kind = threadCode; mask = 0; quota = 1; entry = 0; label = c .before .of-default .ensures i; clearance = c .of-default2 .ensures i }
 
 pub thread-row-spec : {M : Type 1} → statement M
-thread-row-spec = tie.close (tie.spec of-default-requires of-default-requires-2 returns)
+thread-row-spec = tie.close (tie.spec (λ c κs. search needs) (λ c κs. search needs) returns)

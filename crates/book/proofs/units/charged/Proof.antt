@@ -30,21 +30,17 @@ loop-less : tie.Need-loop-less Inv-loop μ-loop
 loop-less c = omega arith
 
 loop-again : tie.Need-loop-again Inv-loop μ-loop
-loop-again c = (omega arith, charged-more (view (c .before .before .before .before .args .b .now)) (c .before .before .before .before .args .c) (c .before .before .loop .i) (c .before .before .loop .sum) (c .charge .result) (c .before .before .loop .inv .1) (c .charge .ensures .0), omega (arith, c .charge .ensures .1))
+loop-again c = (
+  omega arith,
+  charged-more (view (c .before .before .before .before .args .b .now)) (c .before .before .before .before .args .c) (c .before .before .loop .i)
+      (c .before .before .loop .sum) (c .charge .result) (c .before .before .loop .inv .1) (c .charge .ensures .0),
+  omega (arith, c .charge .ensures .1),
+)
 
 returns : tie.Need-returns Inv-loop μ-loop
-returns c = (charged-all (view (c .before .before .before .args .b .now)) (c .before .before .before .args .c) (c .before .loop .i) (c .before .loop .sum) (c .before .loop .inv .1) (omega arith), omega arith)
+returns c =
+    (charged-all (view (c .before .before .before .args .b .now)) (c .before .before .before .args .c) (c .before .loop .i) (c .before .loop .sum) (c .before .loop .inv .1) (omega arith), omega arith)
 
 pub charged-spec : {M : Type 1} → statement M
 charged-spec =
-    tie.close
-    (tie.spec
-    Inv-loop
-    μ-loop
-    loop-holds
-    charge-requires
-    add-sum
-    add-i
-    loop-less
-    loop-again
-    returns)
+    tie.close (tie.spec Inv-loop μ-loop loop-holds charge-requires add-sum add-i loop-less loop-again returns)

@@ -8,18 +8,19 @@ use borrow.Author.Needs.{needs}
 use Rattle.book.proofs.units.spare_of.Statement.{statement}
 use Rattle.book.proofs.units.spare_of.Tie as tie
 
-use-of-requires : tie.Need-use-of-requires
-use-of-requires c κs = search needs
-
-quota-of-requires : tie.Need-quota-of-requires
-quota-of-requires c κs = search needs
-
 sub-result : tie.Need-sub-result
-sub-result c = omega (arith, c .before .use-of .ensures, c .quota-of .ensures, use-within (view (c .before .before .before .args .b .now)) (c .before .before .before .pre .1) (c .before .before .before .args .r) (c .before .before .before .pre .2))
+sub-result c =
+    omega (
+      arith,
+      c .before .use-of .ensures,
+      c .quota-of .ensures,
+      use-within (view (c .before .before .before .args .b .now)) (c .before .before .before .pre .1)
+          (c .before .before .before .args .r) (c .before .before .before .pre .2),
+    )
 
 returns : tie.Need-returns
 unfolding spareAt
 returns c = ap₂ (λ (m n : ℕ). m - n) (c .quota-of .ensures) (c .before .use-of .ensures)
 
 pub spare-of-spec : {M : Type 1} → statement M
-spare-of-spec = tie.close (tie.spec use-of-requires quota-of-requires sub-result returns)
+spare-of-spec = tie.close (tie.spec (λ c κs. search needs) (λ c κs. search needs) sub-result returns)

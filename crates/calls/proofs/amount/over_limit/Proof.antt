@@ -4,31 +4,15 @@ use Rattle.calls.specs.Amount.{overLimit}
 use Rattle.calls.proofs.amount.over_limit.Statement.{statement}
 use Rattle.calls.proofs.amount.over_limit.Tie as tie
 
-enum-known-units : tie.Need-enum-known-units
-enum-known-units c = search needs
-
 returns : tie.Need-returns
 returns c = sym (ap overLimit (c .before .units .given .1))
 
-enum-known-units-2 : tie.Need-enum-known-units-2
-enum-known-units-2 c = search needs
-
 returns-2 : tie.Need-returns-2
 returns-2 c = sym (ap overLimit (c .before .units2 .given .1))
-
-enum-told : tie.Need-enum-told
-enum-told c = search needs
 
 returns-3 : tie.Need-returns-3
 returns-3 c = sym (ap overLimit (c .enum-told .given .1))
 
 pub over-limit-spec : {M : Type 1} → statement M
 over-limit-spec =
-    tie.close
-    (tie.spec
-    enum-known-units
-    returns
-    enum-known-units-2
-    returns-2
-    enum-told
-    returns-3)
+    tie.close (tie.spec (λ c. search needs) returns (λ c. search needs) returns-2 (λ c. search needs) returns-3)

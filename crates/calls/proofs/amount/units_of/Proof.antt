@@ -40,12 +40,4 @@ returns-4 c =
 
 pub units-of-spec : {M : Type 1} → statement M
 units-of-spec =
-    tie.close
-    (tie.spec
-    returns
-    sub-t4
-    cast-t5
-    returns-2
-    returns-3
-    cast-t6
-    returns-4)
+    tie.close (tie.spec returns sub-t4 cast-t5 returns-2 returns-3 cast-t6 returns-4)

@@ -8,6 +8,4 @@ returns c = (refl, masks-joined _ _ (c .pre .0) (c .pre .1))
 
 pub joined-spec : {M : Type 1} → statement M
 joined-spec =
-    tie.close
-    (tie.spec
-    returns)
+    tie.close (tie.spec returns)

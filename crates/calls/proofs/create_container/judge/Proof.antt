@@ -5,44 +5,25 @@ use Rattle.labels.specs.Core.Formed.{and-l}
 use Rattle.calls.specs.Begun.{BegunAs}
 use Rattle.calls.specs.Laws.Arguments.{good-long}
 use Rattle.calls.specs.Laws.Prelude.{book-long}
-use Rattle.calls.specs.Laws.Begun.{stopped-verdict, nobody-verdict, caller-low, sound-by-caller}
+use Rattle.calls.specs.Laws.Begun.{caller-low, sound-by-caller}
 use Rattle.calls.specs.Laws.Lookup.{holder-there}
 use Rattle.calls.specs.Laws.CreateContainer.{container-four, container-five, container-judged}
 use borrow.Author.Needs.{needs}
 use Rattle.calls.proofs.create_container.judge.Statement.{statement}
 use Rattle.calls.proofs.create_container.judge.Tie as tie
 
-begin-requires : tie.Need-begin-requires
-begin-requires c κs = search needs
-
-enum-known-t : tie.Need-enum-known-t
-enum-known-t c = search needs
-
-enum-told : tie.Need-enum-told
-enum-told c = search needs
-
 returns : tie.Need-returns
-returns c =
-    let n = subst (BegunAs _ _ _) (c .enum-told .given .1) (c .before .before .begin .ensures) in
-    (nobody-verdict _ _ _ _ (n .0) (n .1), omega arith, n .0)
-
-enum-known-k : tie.Need-enum-known-k
-enum-known-k c = search needs
-
-returns-2 : tie.Need-returns-2
-returns-2 c = stopped-verdict _ _ _ _ _ (subst (BegunAs _ _ _) (c .before .k .given .1) (c .before .before .before .begin .ensures))
+returns c = subst (BegunAs _ _ _) (c .before .r .given .1) (c .before .before .before .begin .ensures) _
 
 next-of-requires : tie.Need-next-of-requires
 next-of-requires c κs = book-long _ _ (subst (BegunAs _ _ _) (c .before .t .given .1) (c .before .before .before .begin .ensures) .ready .areas)
 
-good-arguments-requires : tie.Need-good-arguments-requires
-good-arguments-requires c κs = search needs
-
-returns-3 : tie.Need-returns-3
-returns-3 c =
+returns-2 : tie.Need-returns-2
+returns-2 c =
+    let up8 = c .before .before .before .before .before .before .before .before in
     let by = subst (BegunAs _ _ _) (c .before .before .before .before .t .given .1) (c .before .before .before .before .before .before .begin .ensures) in
     let bad = sym (c .before .good-arguments .ensures) ∙ not-true (c .before .good-arguments .result) (c .if1 .taken) in
-    container-four _ _ _ _ _ _ (c .before .before .before .before .before .before .before .before .before .before .before .args .d) _ _ by _
+    container-four _ _ _ _ _ _ (up8 .before .before .before .args .d) _ _ by _
     (c .before .before .next-of .ensures) bad
 
 open-container-requires : tie.Need-open-container-requires
@@ -50,48 +31,44 @@ open-container-requires c κs =
     let by = subst (BegunAs _ _ _) (c .before .before .before .before .t .given .1) (c .before .before .before .before .before .before .begin .ensures) in
     (book-long _ _ (by .ready .areas), caller-low _ _ _ _ by)
 
-enum-known-container : tie.Need-enum-known-container
-enum-known-container c = search needs
-
-enum-told-2 : tie.Need-enum-told-2
-enum-told-2 c = search needs
-
-returns-4 : tie.Need-returns-4
-returns-4 c =
+returns-3 : tie.Need-returns-3
+returns-3 c =
+    let up8 = c .before .before .before .before .before .before .before .before in
     let by = subst (BegunAs _ _ _) (c .before .before .before .before .before .before .before .t .given .1)
-    (c .before .before .before .before .before .before .before .before .before .begin .ensures) in
+    (up8 .before .begin .ensures) in
     let good = sym (c .before .before .before .before .good-arguments .ensures) ∙ not-false (c .before .before .before .before .good-arguments .result)
     (c .before .before .before .if1 .left) in
-    container-five _ _ _ _ _ _ (c .before .before .before .before .before .before .before .before .before .before .before .before .before .before .args .d) _ _ by _
-    (c .before .before .before .before .before .next-of .ensures) good (sym (c .before .before .open-container .ensures) ∙ c .enum-told2 .given .1)
+    container-five _ _ _ _ _ _ (up8 .before .before .before .before .before .before .args .d) _ _ by _
+    (c .before .before .before .before .before .next-of .ensures) good (sym (c .before .before .open-container .ensures) ∙ c .enum-told .given .1)
 
 plain-allowed-requires : tie.Need-plain-allowed-requires
 plain-allowed-requires c κs =
-    let by = subst (BegunAs _ _ _) (c .before .before .before .before .before .before .before .before .t .given .1)
-    (c .before .before .before .before .before .before .before .before .before .before .begin .ensures) in
+    let up8 = c .before .before .before .before .before .before .before .before in
+    let by = subst (BegunAs _ _ _) (up8 .t .given .1)
+    (up8 .before .before .begin .ensures) in
     let good = sym (c .before .before .before .before .before .good-arguments .ensures) ∙ not-false (c .before .before .before .before .before .good-arguments .result)
     (c .before .before .before .before .if1 .left) in
     (book-long _ _ (by .ready .areas), caller-low _ _ _ _ by, good-long _ _ _ (and-l _ _ good))
 
-or-default-requires : tie.Need-or-default-requires
-or-default-requires c κs = search needs
-
 admit-requires : tie.Need-admit-requires
 admit-requires c κs =
-    let by = subst (BegunAs _ _ _) (c .before .before .before .before .before .before .before .before .before .before .t .given .1)
-    (c .before .before .before .before .before .before .before .before .before .before .before .before .begin .ensures) in
+    let up8 = c .before .before .before .before .before .before .before .before in
+    let by = subst (BegunAs _ _ _) (up8 .before .before .t .given .1)
+    (up8 .before .before .before .before .begin .ensures) in
     let there = holder-there _ _ _ _ _ by _ (sym (c .before .before .before .before .before .open-container .ensures) ∙ c .before .before .before .container .given .1) in
     (book-long _ _ (by .ready .areas), sound-by-caller _ _ _ _ by, caller-low _ _ _ _ by, there, omega arith)
 
-returns-5 : tie.Need-returns-5
-returns-5 c =
-    let by = subst (BegunAs _ _ _) (c .before .before .before .before .before .before .before .before .before .before .before .t .given .1)
-    (c .before .before .before .before .before .before .before .before .before .before .before .before .before .begin .ensures) in
-    let good = sym (c .before .before .before .before .before .before .before .before .good-arguments .ensures) ∙ not-false
-    (c .before .before .before .before .before .before .before .before .good-arguments .result) (c .before .before .before .before .before .before .before .if1 .left) in
+returns-4 : tie.Need-returns-4
+returns-4 c =
+    let up8 = c .before .before .before .before .before .before .before .before in
+    let up16 = up8 .before .before .before .before .before .before .before .before in
+    let by = subst (BegunAs _ _ _) (up8 .before .before .before .t .given .1)
+    (up8 .before .before .before .before .before .begin .ensures) in
+    let good = sym (up8 .good-arguments .ensures) ∙ not-false
+    (up8 .good-arguments .result) (c .before .before .before .before .before .before .before .if1 .left) in
     container-judged _ _ _ _ _ _
-    (c .before .before .before .before .before .before .before .before .before .before .before .before .before .before .before .before .before .before .args .d) _ _ by _
-    (c .before .before .before .before .before .before .before .before .before .next-of .ensures) good
+    (up16 .before .before .args .d) _ _ by _
+    (up8 .before .next-of .ensures) good
     _ (sym (c .before .before .before .before .before .before .open-container .ensures) ∙ c .before .before .before .before .container .given .1) _
     (c .before .before .plain-allowed .ensures) _ (c .before .or-default .ensures) (c .admit .result) (c .admit .ensures)
 
@@ -99,20 +76,18 @@ pub judge-spec : {M : Type 1} → statement M
 judge-spec =
     tie.close
     (tie.spec
-    begin-requires
-    enum-known-t
-    enum-told
+    (λ c κs. search needs)
+    (λ c. search needs)
+    (λ c. search needs)
     returns
-    enum-known-k
-    returns-2
     next-of-requires
-    good-arguments-requires
-    returns-3
+    (λ c κs. search needs)
+    returns-2
     open-container-requires
-    enum-known-container
-    enum-told-2
-    returns-4
+    (λ c. search needs)
+    (λ c. search needs)
+    returns-3
     plain-allowed-requires
-    or-default-requires
+    (λ c κs. search needs)
     admit-requires
-    returns-5)
+    returns-4)

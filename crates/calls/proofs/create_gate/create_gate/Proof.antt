@@ -1,50 +1,20 @@
 use mathlib.Core.Path.{subst}
 use Rattle.calls.specs.CreateGate.{GateJudged}
-use Rattle.calls.specs.Laws.Prelude.{book-long, done-stopped, done-refused}
 use Rattle.calls.specs.Laws.Creating.{creating, made-done}
 use Rattle.calls.specs.Laws.CreateGate.{gate-label-long, gate-clearance-long, gate-whole, gate-object}
 use borrow.Author.Needs.{needs}
 use Rattle.calls.proofs.create_gate.create_gate.Statement.{statement}
 use Rattle.calls.proofs.create_gate.create_gate.Tie as tie
+use Rattle.calls.specs.Outcome.{Means}
+use Rattle.calls.specs.Laws.Leave.{leavable}
 
-judge-requires : tie.Need-judge-requires
-judge-requires c κs = search needs
-
-enum-known-c : tie.Need-enum-known-c
-enum-known-c c = search needs
-
-enum-known-k : tie.Need-enum-known-k
-enum-known-k c = search needs
-
-move-on-requires : tie.Need-move-on-requires
-move-on-requires c κs =
-    let p = subst (GateJudged _ _ _ _ _ _ _ _ _) (c .before .before .k .given .1) (c .before .before .before .before .judge .ensures) in
-    (book-long _ _ (p .2 .areas), p .2 .number)
-
-same-length : tie.Need-same-length
-same-length c = search needs
-
-same-length-2 : tie.Need-same-length-2
-same-length-2 c = search needs
+leave-requires : tie.Need-leave-requires
+leave-requires c κs = leavable (subst (Means _ _ _ _) (c .before .before .r .given .1) (c .before .before .before .before .judge .ensures))
 
 returns : tie.Need-returns
 returns c =
-    let p = subst (GateJudged _ _ _ _ _ _ _ _ _) (c .before .before .before .before .before .k .given .1) (c .before .before .before .before .before .before .before .judge .ensures) in
-    done-refused _ _ _ _ (p .2) _ (same-length c) _ (p .0) (p .1) (c .before .before .move-on .ensures)
-
-enum-known-k-2 : tie.Need-enum-known-k-2
-enum-known-k-2 c = search needs
-
-same-length-3 : tie.Need-same-length-3
-same-length-3 c = search needs
-
-same-length-4 : tie.Need-same-length-4
-same-length-4 c = search needs
-
-returns-2 : tie.Need-returns-2
-returns-2 c =
-    let p = subst (GateJudged _ _ _ _ _ _ _ _ _) (c .before .k2 .given .1) (c .before .before .before .judge .ensures) in
-    done-stopped _ _ _ _ _ (p .0) (p .1)
+    c .before .before .leave .ensures .done _ _ _ (subst (Means _ _ _ _) (c .before .before .before .before .before .r .given .1)
+    (c .before .before .before .before .before .before .before .judge .ensures))
 
 from-bytes-requires : tie.Need-from-bytes-requires
 from-bytes-requires c κs =
@@ -56,46 +26,39 @@ from-bytes-requires-2 c κs =
     let p = subst (GateJudged _ _ _ _ _ _ _ _ _) (c .before .before .c .given .1) (c .before .before .before .before .judge .ensures) in
     gate-clearance-long _ _ _ _ _ _ _ (p .1 .good)
 
-new-row-requires : tie.Need-new-row-requires
-new-row-requires c κs = search needs
-
 make-in-requires : tie.Need-make-in-requires
 make-in-requires c κs =
-    let p = subst (GateJudged _ _ _ _ _ _ _ _ _) (c .before .before .before .before .before .c .given .1) (c .before .before .before .before .before .before .before .judge .ensures) in
-    creating _ _ _ _ _ _ _ _ _ (p .0) (p .1) _ _ _
+    let p = subst (GateJudged _ _ _ _ _ _ _ _ _) (c .before .before .before .before .before .c .given .1)
+    (c .before .before .before .before .before .before .before .judge .ensures) in
+    creating _ _ _ _ _ _ _ _ (p .0) (p .1) _ _ _
     (gate-whole _ _ _ _ _ _ _ (p .1 .good) _ _ _ (c .before .new-row .ensures) (c .before .before .before .from-bytes .ensures) (c .before .before .from-bytes2 .ensures))
 
-same-length-5 : tie.Need-same-length-5
-same-length-5 c = search needs
+same-length-3 : tie.Need-same-length-3
+same-length-3 c = search needs
 
-same-length-6 : tie.Need-same-length-6
-same-length-6 c = search needs
-
-returns-3 : tie.Need-returns-3
-returns-3 c =
-    let p = subst (GateJudged _ _ _ _ _ _ _ _ _) (c .before .before .before .before .before .before .before .before .c .given .1) (c .before .before .before .before .before .before .before .before .before .before .judge .ensures) in
-    made-done _ _ _ _ _ _ _ _ _ (p .0) (p .1) _ (same-length-5 c) _ (c .before .before .make-in .ensures .1)
-    (gate-object _ _ _ _ _ _ _ (p .1 .good) _ _ _ (c .before .before .before .before .new-row .ensures) (c .before .before .before .before .before .before .from-bytes .ensures) (c .before .before .before .before .before .from-bytes2 .ensures)) _ (c .before .before .make-in .ensures .0)
+returns-2 : tie.Need-returns-2
+returns-2 c =
+    let up8 = c .before .before .before .before .before .before .before .before in
+    let p = subst (GateJudged _ _ _ _ _ _ _ _ _) (up8 .c .given .1) (up8 .before .before .judge .ensures) in
+    made-done _ _ _ _ _ _ _ _ (p .0) (p .1) _ (same-length-3 c) _ (c .before .before .make-in .ensures .1)
+    (gate-object _ _ _ _ _ _ _ (p .1 .good) _ _ _ (c .before .before .before .before .new-row .ensures) (c .before .before .before .before .before .before .from-bytes .ensures)
+    (c .before .before .before .before .before .from-bytes2 .ensures)) _ (c .before .before .make-in .ensures .0)
 
 pub create-gate-spec : {M : Type 1} → statement M
 create-gate-spec =
     tie.close
     (tie.spec
-    judge-requires
-    enum-known-c
-    enum-known-k
-    move-on-requires
-    same-length
-    same-length-2
+    (λ c κs. search needs)
+    (λ c. search needs)
+    (λ c. search needs)
+    leave-requires
+    (λ c. search needs)
+    (λ c. search needs)
     returns
-    enum-known-k-2
-    same-length-3
-    same-length-4
-    returns-2
     from-bytes-requires
     from-bytes-requires-2
-    new-row-requires
+    (λ c κs. search needs)
     make-in-requires
-    same-length-5
-    same-length-6
-    returns-3)
+    same-length-3
+    (λ c. search needs)
+    returns-2)

@@ -5,47 +5,38 @@ use borrow.Author.Needs.{needs}
 use Rattle.calls.proofs.create_gate.good_arguments.Statement.{statement}
 use Rattle.calls.proofs.create_gate.good_arguments.Tie as tie
 
-good-label-requires : tie.Need-good-label-requires
-good-label-requires c κs = search needs
-
 returns : tie.Need-returns
 returns c = first-bad _ _ (sym (c .before .good-label .ensures) ∙ not-true (c .before .good-label .result) (c .if1 .taken))
-
-good-label-requires-2 : tie.Need-good-label-requires-2
-good-label-requires-2 c κs = search needs
 
 returns-2 : tie.Need-returns-2
 returns-2 c =
     first-good _ _ _ (sym (c .before .before .before .good-label .ensures) ∙ not-false (c .before .before .before .good-label .result) (c .before .before .if1 .left))
     (first-bad _ _ (sym (c .before .good-label2 .ensures) ∙ not-true (c .before .good-label2 .result) (c .if2 .taken)))
 
-good-text-requires : tie.Need-good-text-requires
-good-text-requires c κs = search needs
-
 returns-3 : tie.Need-returns-3
 returns-3 c =
-    first-good _ _ _ (sym (c .before .before .before .before .before .good-label .ensures) ∙ not-false (c .before .before .before .before .before .good-label .result) (c .before .before .before .before .if1 .left))
+    first-good _ _ _ (sym (c .before .before .before .before .before .good-label .ensures) ∙ not-false (c .before .before .before .before .before .good-label .result)
+    (c .before .before .before .before .if1 .left))
     (first-good _ _ _ (sym (c .before .before .before .good-label2 .ensures) ∙ not-false (c .before .before .before .good-label2 .result) (c .before .before .if2 .left))
     (first-bad _ _ (sym (c .before .good-text .ensures) ∙ not-true (c .before .good-text .result) (c .if3 .taken))))
 
-good-text-requires-2 : tie.Need-good-text-requires-2
-good-text-requires-2 c κs = search needs
-
 returns-4 : tie.Need-returns-4
 returns-4 c =
-    first-good _ _ _ (sym (c .before .before .before .before .before .before .good-label .ensures) ∙ not-false (c .before .before .before .before .before .before .good-label .result) (c .before .before .before .before .before .if1 .left))
-    (first-good _ _ _ (sym (c .before .before .before .before .good-label2 .ensures) ∙ not-false (c .before .before .before .before .good-label2 .result) (c .before .before .before .if2 .left))
+    first-good _ _ _ (sym (c .before .before .before .before .before .before .good-label .ensures) ∙ not-false
+    (c .before .before .before .before .before .before .good-label .result) (c .before .before .before .before .before .if1 .left))
+    (first-good _ _ _ (sym (c .before .before .before .before .good-label2 .ensures) ∙ not-false (c .before .before .before .before .good-label2 .result)
+    (c .before .before .before .if2 .left))
     (first-good _ _ _ (sym (c .before .before .good-text .ensures) ∙ not-false (c .before .before .good-text .result) (c .before .if3 .left)) (c .good-text2 .ensures)))
 
 pub good-arguments-spec : {M : Type 1} → statement M
 good-arguments-spec =
     tie.close
     (tie.spec
-    good-label-requires
+    (λ c κs. search needs)
     returns
-    good-label-requires-2
+    (λ c κs. search needs)
     returns-2
-    good-text-requires
+    (λ c κs. search needs)
     returns-3
-    good-text-requires-2
+    (λ c κs. search needs)
     returns-4)

@@ -5,14 +5,8 @@ use borrow.Author.Needs.{needs}
 use Rattle.calls.proofs.create_segment.good_arguments.Statement.{statement}
 use Rattle.calls.proofs.create_segment.good_arguments.Tie as tie
 
-good-label-requires : tie.Need-good-label-requires
-good-label-requires c κs = search needs
-
 returns : tie.Need-returns
 returns c = first-bad _ _ (sym (c .before .good-label .ensures) ∙ not-true (c .before .good-label .result) (c .if1 .taken))
-
-good-text-requires : tie.Need-good-text-requires
-good-text-requires c κs = search needs
 
 returns-2 : tie.Need-returns-2
 returns-2 c =
@@ -26,10 +20,4 @@ returns-3 c =
 
 pub good-arguments-spec : {M : Type 1} → statement M
 good-arguments-spec =
-    tie.close
-    (tie.spec
-    good-label-requires
-    returns
-    good-text-requires
-    returns-2
-    returns-3)
+    tie.close (tie.spec (λ c κs. search needs) returns (λ c κs. search needs) returns-2 returns-3)

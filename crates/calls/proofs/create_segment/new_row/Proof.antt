@@ -3,19 +3,9 @@ use Rattle.rules.specs.Kernel.{segmentCode}
 use Rattle.calls.proofs.create_segment.new_row.Statement.{statement}
 use Rattle.calls.proofs.create_segment.new_row.Tie as tie
 
-cast-t3 : tie.Need-cast-t3
-cast-t3 c = search needs
-
-of-default-requires : tie.Need-of-default-requires
-of-default-requires c κs = search needs
-
 returns : tie.Need-returns
 returns c = λ i. record { kind = segmentCode; mask = 0; quota = c .before .args .quota; entry = 0; label = c .before .args .label; clearance = c .of-default .ensures i }
 
 pub new-row-spec : {M : Type 1} → statement M
 new-row-spec =
-    tie.close
-    (tie.spec
-    cast-t3
-    of-default-requires
-    returns)
+    tie.close (tie.spec (λ c. search needs) (λ c κs. search needs) returns)

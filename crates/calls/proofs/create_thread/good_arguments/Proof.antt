@@ -5,22 +5,13 @@ use borrow.Author.Needs.{needs}
 use Rattle.calls.proofs.create_thread.good_arguments.Statement.{statement}
 use Rattle.calls.proofs.create_thread.good_arguments.Tie as tie
 
-good-label-requires : tie.Need-good-label-requires
-good-label-requires c κs = search needs
-
 returns : tie.Need-returns
 returns c = first-bad _ _ (sym (c .before .good-label .ensures) ∙ not-true (c .before .good-label .result) (c .if1 .taken))
-
-good-label-requires-2 : tie.Need-good-label-requires-2
-good-label-requires-2 c κs = search needs
 
 returns-2 : tie.Need-returns-2
 returns-2 c =
     first-good _ _ _ (sym (c .before .before .before .good-label .ensures) ∙ not-false (c .before .before .before .good-label .result) (c .before .before .if1 .left))
     (first-bad _ _ (sym (c .before .good-label2 .ensures) ∙ not-true (c .before .good-label2 .result) (c .if2 .taken)))
-
-good-text-requires : tie.Need-good-text-requires
-good-text-requires c κs = search needs
 
 returns-3 : tie.Need-returns-3
 returns-3 c =
@@ -29,11 +20,4 @@ returns-3 c =
 
 pub good-arguments-spec : {M : Type 1} → statement M
 good-arguments-spec =
-    tie.close
-    (tie.spec
-    good-label-requires
-    returns
-    good-label-requires-2
-    returns-2
-    good-text-requires
-    returns-3)
+    tie.close (tie.spec (λ c κs. search needs) returns (λ c κs. search needs) returns-2 (λ c κs. search needs) returns-3)

@@ -10,7 +10,4 @@ returns-2 c = quota-asked _ _ (c .if1 .left)
 
 pub or-default-spec : {M : Type 1} → statement M
 or-default-spec =
-    tie.close
-    (tie.spec
-    returns
-    returns-2)
+    tie.close (tie.spec returns returns-2)

@@ -1,51 +1,59 @@
 use mathlib.Core.Path.{sym, _∙_}
+use Rattle.calls.specs.Laws.Conditions.{first-holds, first-fails}
 use borrow.Author.Needs.{needs}
-use borrow.Author.Tests.{not-true, not-false}
-use Rattle.calls.specs.Laws.EnterGate.{guard-fails, verify-fails, floor-fails, limit-fails, join-rests}
 use Rattle.calls.proofs.enter_gate.allowed.Statement.{statement}
 use Rattle.calls.proofs.enter_gate.allowed.Tie as tie
 
-flows-requires : tie.Need-flows-requires
-flows-requires c κs = search needs
-
 returns : tie.Need-returns
-returns c = sym (guard-fails _ _ _ _ _ _ _ (sym (c .before .flows .ensures) ∙ not-true (c .before .flows .result) (c .if1 .taken)))
-
-flows-requires-2 : tie.Need-flows-requires-2
-flows-requires-2 c κs = search needs
+returns c = sym (first-fails _ _ _ (sym (c .before .before .before .flow .ensures) ∙ c .before .r .given .1))
 
 returns-2 : tie.Need-returns-2
-returns-2 c = sym (verify-fails _ _ _ _ _ _ _ (sym (c .before .before .before .flows .ensures) ∙ not-false (c .before .before .before .flows .result) (c .before .before .if1 .left)) (sym (c .before .flows2 .ensures) ∙ not-true (c .before .flows2 .result) (c .if2 .taken)))
-
-floor-flows-requires : tie.Need-floor-flows-requires
-floor-flows-requires c κs = search needs
+returns-2 c =
+    sym (first-holds _ _ (sym (c .before .before .before .before .before .before .flow .ensures) ∙ c .before .before .before .before .enum-told .given .1) ∙
+    (first-fails _ _ _ (sym (c .before .before .before .flow2 .ensures) ∙ c .before .r2 .given .1)))
 
 returns-3 : tie.Need-returns-3
-returns-3 c = sym (floor-fails _ _ _ _ _ _ _ (sym (c .before .before .before .before .before .flows .ensures) ∙ not-false (c .before .before .before .before .before .flows .result) (c .before .before .before .before .if1 .left)) (sym (c .before .before .before .flows2 .ensures) ∙ not-false (c .before .before .before .flows2 .result) (c .before .before .if2 .left)) (sym (c .before .floor-flows .ensures) ∙ not-true (c .before .floor-flows .result) (c .if3 .taken)))
-
-flows-requires-3 : tie.Need-flows-requires-3
-flows-requires-3 c κs = search needs
+returns-3 c =
+    let up8 = c .before .before .before .before .before .before .before .before in
+    sym (first-holds _ _ (sym (up8 .before .flow .ensures) ∙ c .before .before .before .before .before .before .before .enum-told .given .1) ∙
+    (first-holds _ _ (sym (c .before .before .before .before .before .before .flow2 .ensures) ∙ c .before .before .before .before .enum-told2 .given .1) ∙
+    (first-fails _ _ _ (sym (c .before .before .before .floor-flow .ensures) ∙ c .before .r3 .given .1))))
 
 returns-4 : tie.Need-returns-4
-returns-4 c = sym (limit-fails _ _ _ _ _ _ _ (sym (c .before .before .before .before .before .before .before .flows .ensures) ∙ not-false (c .before .before .before .before .before .before .before .flows .result) (c .before .before .before .before .before .before .if1 .left)) (sym (c .before .before .before .before .before .flows2 .ensures) ∙ not-false (c .before .before .before .before .before .flows2 .result) (c .before .before .before .before .if2 .left)) (sym (c .before .before .before .floor-flows .ensures) ∙ not-false (c .before .before .before .floor-flows .result) (c .before .before .if3 .left)) (sym (c .before .flows3 .ensures) ∙ not-true (c .before .flows3 .result) (c .if4 .taken)))
-
-flows-join-requires : tie.Need-flows-join-requires
-flows-join-requires c κs = search needs
+returns-4 c =
+    let up8 = c .before .before .before .before .before .before .before .before in
+    sym (first-holds _ _ (sym (up8 .before .before .before .before .flow .ensures) ∙ up8 .before .before .enum-told .given .1) ∙
+    (first-holds _ _ (sym (up8 .before .flow2 .ensures) ∙ c .before .before .before .before .before .before .before .enum-told2 .given .1) ∙
+    (first-holds _ _ (sym (c .before .before .before .before .before .before .floor-flow .ensures) ∙ c .before .before .before .before .enum-told3 .given .1) ∙
+    (first-fails _ _ _ (sym (c .before .before .before .flow3 .ensures) ∙ c .before .r4 .given .1)))))
 
 returns-5 : tie.Need-returns-5
-returns-5 c = c .flows-join .ensures ∙ sym (join-rests _ _ _ _ _ _ _ (sym (c .before .before .before .before .before .before .before .before .flows .ensures) ∙ not-false (c .before .before .before .before .before .before .before .before .flows .result) (c .before .before .before .before .before .before .before .if1 .left)) (sym (c .before .before .before .before .before .before .flows2 .ensures) ∙ not-false (c .before .before .before .before .before .before .flows2 .result) (c .before .before .before .before .before .if2 .left)) (sym (c .before .before .before .before .floor-flows .ensures) ∙ not-false (c .before .before .before .before .floor-flows .result) (c .before .before .before .if3 .left)) (sym (c .before .before .flows3 .ensures) ∙ not-false (c .before .before .flows3 .result) (c .before .if4 .left)))
+returns-5 c =
+    let up8 = c .before .before .before .before .before .before .before .before in
+    c .flow-join .ensures ∙ sym (first-holds _ _ (sym (up8 .before .before .before .before .flow .ensures) ∙ up8 .before .before .enum-told .given .1) ∙
+    (first-holds _ _ (sym (up8 .before .flow2 .ensures) ∙ c .before .before .before .before .before .before .before .enum-told2 .given .1) ∙
+    (first-holds _ _ (sym (c .before .before .before .before .before .before .floor-flow .ensures) ∙ c .before .before .before .before .enum-told3 .given .1) ∙
+    (first-holds _ _ (sym (c .before .before .before .flow3 .ensures) ∙ c .before .enum-told4 .given .1)))))
 
 pub allowed-spec : {M : Type 1} → statement M
 allowed-spec =
     tie.close
     (tie.spec
-    flows-requires
+    (λ c κs. search needs)
+    (λ c. search needs)
+    (λ c. search needs)
     returns
-    flows-requires-2
+    (λ c κs. search needs)
+    (λ c. search needs)
+    (λ c. search needs)
     returns-2
-    floor-flows-requires
+    (λ c κs. search needs)
+    (λ c. search needs)
+    (λ c. search needs)
     returns-3
-    flows-requires-3
+    (λ c κs. search needs)
+    (λ c. search needs)
+    (λ c. search needs)
     returns-4
-    flows-join-requires
+    (λ c κs. search needs)
     returns-5)

@@ -1,21 +1,15 @@
 use mathlib.Core.Path.{sym, _∙_}
+use Rattle.calls.specs.Laws.Conditions.{first-holds, first-fails}
 use borrow.Author.Needs.{needs}
-use borrow.Author.Tests.{not-true, not-false}
-use Rattle.calls.specs.Laws.Writing.{write-fails, write-holds, flow-last}
 use Rattle.calls.proofs.link_segment.allowed.Statement.{statement}
 use Rattle.calls.proofs.link_segment.allowed.Tie as tie
 
-may-write-requires : tie.Need-may-write-requires
-may-write-requires c κs = search needs
-
 returns : tie.Need-returns
-returns c = sym (write-fails _ _ _ (sym (c .before .may-write .ensures) ∙ not-true (c .before .may-write .result) (c .if1 .taken)))
-
-flows-requires : tie.Need-flows-requires
-flows-requires c κs = search needs
+returns c = sym (first-fails _ _ _ (sym (c .before .before .before .writing .ensures) ∙ c .before .r .given .1))
 
 returns-2 : tie.Need-returns-2
-returns-2 c = c .flows .ensures ∙ sym (write-holds _ _ _ (sym (c .before .before .may-write .ensures) ∙ not-false (c .before .before .may-write .result) (c .before .if1 .left)) ∙ flow-last _ _)
+returns-2 c = c .flow .ensures ∙ sym (first-holds _ _ (sym (c .before .before .before .writing .ensures) ∙ c .before .enum-told .given .1))
 
 pub allowed-spec : {M : Type 1} → statement M
-allowed-spec = tie.close (tie.spec may-write-requires returns flows-requires returns-2)
+allowed-spec =
+    tie.close (tie.spec (λ c κs. search needs) (λ c. search needs) (λ c. search needs) returns (λ c κs. search needs) returns-2)

@@ -4,20 +4,8 @@ use borrow.Author.Needs.{needs}
 use Rattle.calls.proofs.look.open_look.Statement.{statement}
 use Rattle.calls.proofs.look.open_look.Tie as tie
 
-open-entry-requires : tie.Need-open-entry-requires
-open-entry-requires c κs = search needs
-
 returns : tie.Need-returns
 returns c = c .open-entry .ensures ∙ sym (place-other _ _ _ _ (c .before .if1 .taken))
-
-open-container-requires : tie.Need-open-container-requires
-open-container-requires c κs = search needs
-
-enum-known-container : tie.Need-enum-known-container
-enum-known-container c = search needs
-
-enum-told : tie.Need-enum-told
-enum-told c = search needs
 
 returns-2 : tie.Need-returns-2
 returns-2 c = sym (place-missing _ _ _ _ (c .before .before .before .if1 .left) (sym (c .before .before .open-container .ensures) ∙ c .enum-told .given .1))
@@ -28,12 +16,4 @@ returns-3 c =
 
 pub open-look-spec : {M : Type 1} → statement M
 open-look-spec =
-    tie.close
-    (tie.spec
-    open-entry-requires
-    returns
-    open-container-requires
-    enum-known-container
-    enum-told
-    returns-2
-    returns-3)
+    tie.close (tie.spec (λ c κs. search needs) returns (λ c κs. search needs) (λ c. search needs) (λ c. search needs) returns-2 returns-3)

@@ -4,29 +4,13 @@ use Rattle.calls.specs.Laws.LookBytes.{shown-put}
 use Rattle.calls.proofs.look.put_shown.Statement.{statement}
 use Rattle.calls.proofs.look.put_shown.Tie as tie
 
-cast-put-head : tie.Need-cast-put-head
-cast-put-head c = search needs
-
-put-head-requires : tie.Need-put-head-requires
-put-head-requires c κs = search needs
-
-put-words-requires : tie.Need-put-words-requires
-put-words-requires c κs = search needs
-
-same-length : tie.Need-same-length
-same-length c = search needs
-
 returns : tie.Need-returns
 returns c =
-    let a = c .before .before .before .before .before .before .before .before .before .before .before .before .args in
-    shown-put (a .out .now) (c .before .before .before .before .before .before .before .before .before .put-head .last .0) (c .before .before .put-words .last .0) (a .t3 .words) (a .kind) (a .t3 .default) (c .before .before .before .before .before .before .before .before .before .before .before .before .pre .0) (omega arith) (c .before .before .before .before .before .before .before .before .before .put-head .ensures) (c .before .before .put-words .ensures)
+    let up8 = c .before .before .before .before .before .before .before .before in
+    let a = up8 .before .before .before .before .args in
+    shown-put (a .out .now) (up8 .before .put-head .last .0) (c .before .before .put-words .last .0) (a .t3 .words) (a .kind) (a .t3 .default)
+    (up8 .before .before .before .before .pre .0) (omega arith) (up8 .before .put-head .ensures) (c .before .before .put-words .ensures)
 
 pub put-shown-spec : {M : Type 1} → statement M
 put-shown-spec =
-    tie.close
-    (tie.spec
-    cast-put-head
-    put-head-requires
-    put-words-requires
-    same-length
-    returns)
+    tie.close (tie.spec (λ c. search needs) (λ c κs. search needs) (λ c κs. search needs) (λ c. search needs) returns)

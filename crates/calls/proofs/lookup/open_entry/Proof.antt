@@ -7,20 +7,8 @@ use borrow.Author.Needs.{needs}
 use Rattle.calls.proofs.lookup.open_entry.Statement.{statement}
 use Rattle.calls.proofs.lookup.open_entry.Tie as tie
 
-entry-of-requires : tie.Need-entry-of-requires
-entry-of-requires c κs = search needs
-
-enum-known-container : tie.Need-enum-known-container
-enum-known-container c = search needs
-
-enum-told : tie.Need-enum-told
-enum-told c = search needs
-
 returns : tie.Need-returns
 returns c = sym (none-entry _ _ _ _ (sym (c .before .before .entry-of .ensures) ∙ c .enum-told .given .1))
-
-label-of-requires : tie.Need-label-of-requires
-label-of-requires c κs = search needs
 
 label-of-requires-2 : tie.Need-label-of-requires-2
 label-of-requires-2 c κs = (
@@ -28,9 +16,6 @@ label-of-requires-2 c κs = (
   container-low _ _ _ (entry-parts _ _ _ _ _ _ (sym (c .before .before .before .before .entry-of .ensures)
       ∙ c .before .before .container .given .1) .0),
 )
-
-may-read-requires : tie.Need-may-read-requires
-may-read-requires c κs = search needs
 
 returns-2 : tie.Need-returns-2
 returns-2 c =
@@ -48,12 +33,12 @@ pub open-entry-spec : {M : Type 1} → statement M
 open-entry-spec =
     tie.close
     (tie.spec
-    entry-of-requires
-    enum-known-container
-    enum-told
+    (λ c κs. search needs)
+    (λ c. search needs)
+    (λ c. search needs)
     returns
-    label-of-requires
+    (λ c κs. search needs)
     label-of-requires-2
-    may-read-requires
+    (λ c κs. search needs)
     returns-2
     returns-3)

@@ -4,23 +4,12 @@ use borrow.Author.Needs.{needs}
 use Rattle.calls.proofs.part.allowed.Statement.{statement}
 use Rattle.calls.proofs.part.allowed.Tie as tie
 
-may-write-requires : tie.Need-may-write-requires
-may-write-requires c κs = search needs
-
 returns : tie.Need-returns
-returns c = c .may-write .ensures ∙ sym (asked-writing _ _ _ (c .before .if1 .taken))
-
-may-read-requires : tie.Need-may-read-requires
-may-read-requires c κs = search needs
+returns c = c .writing .ensures ∙ sym (asked-writing _ _ _ (c .before .if1 .taken))
 
 returns-2 : tie.Need-returns-2
-returns-2 c = c .may-read .ensures ∙ sym (asked-reading _ _ _ (c .before .if1 .left))
+returns-2 c = c .reading .ensures ∙ sym (asked-reading _ _ _ (c .before .if1 .left))
 
 pub allowed-spec : {M : Type 1} → statement M
 allowed-spec =
-    tie.close
-    (tie.spec
-    may-write-requires
-    returns
-    may-read-requires
-    returns-2)
+    tie.close (tie.spec (λ c κs. search needs) returns (λ c κs. search needs) returns-2)

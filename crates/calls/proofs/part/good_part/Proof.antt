@@ -13,8 +13,4 @@ returns-3 c = count-decides (c .before .before .args .k) (c .before .before .arg
 
 pub good-part-spec : {M : Type 1} → statement M
 good-part-spec =
-    tie.close
-    (tie.spec
-    returns
-    returns-2
-    returns-3)
+    tie.close (tie.spec returns returns-2 returns-3)

@@ -1,50 +1,20 @@
 use native.Mathlib.Omega.{arith}
 use mathlib.Core.Path.{subst, _∙_}
 use Rattle.calls.specs.Outcome.{Means}
-use Rattle.calls.specs.Laws.Prelude.{book-long, done-stopped, done-refused}
+use Rattle.calls.specs.Laws.Prelude.{book-long}
 use Rattle.calls.specs.Laws.Resize.{can-resize, resized-number, resize-done}
 use borrow.Author.Needs.{needs}
 use Rattle.calls.proofs.resize.resize.Statement.{statement}
 use Rattle.calls.proofs.resize.resize.Tie as tie
+use Rattle.calls.specs.Laws.Leave.{leavable}
 
-judge-requires : tie.Need-judge-requires
-judge-requires c κs = search needs
-
-enum-known-row : tie.Need-enum-known-row
-enum-known-row c = search needs
-
-enum-known-k : tie.Need-enum-known-k
-enum-known-k c = search needs
-
-move-on-requires : tie.Need-move-on-requires
-move-on-requires c κs =
-    let n = subst (Means _ _ _ _) (c .before .before .k .given .1) (c .before .before .before .before .judge .ensures) in
-    (book-long _ _ (n .2 .areas), n .2 .number)
-
-same-length : tie.Need-same-length
-same-length c = search needs
-
-same-length-2 : tie.Need-same-length-2
-same-length-2 c = search needs
+leave-requires : tie.Need-leave-requires
+leave-requires c κs = leavable (subst (Means _ _ _ _) (c .before .before .r .given .1) (c .before .before .before .before .judge .ensures))
 
 returns : tie.Need-returns
 returns c =
-    let n = subst (Means _ _ _ _) (c .before .before .before .before .before .k .given .1) (c .before .before .before .before .before .before .before .judge .ensures) in
-    done-refused _ _ _ _ (n .2) _ (c .before .before .move-on .kept .0) _ (n .0) (n .1) (c .before .before .move-on .ensures)
-
-enum-known-k-2 : tie.Need-enum-known-k-2
-enum-known-k-2 c = search needs
-
-same-length-3 : tie.Need-same-length-3
-same-length-3 c = search needs
-
-same-length-4 : tie.Need-same-length-4
-same-length-4 c = search needs
-
-returns-2 : tie.Need-returns-2
-returns-2 c =
-    let n = subst (Means _ _ _ _) (c .before .k2 .given .1) (c .before .before .before .judge .ensures) in
-    done-stopped _ _ _ _ _ (n .0) (n .1)
+    c .before .before .leave .ensures .done _ _ _ (subst (Means _ _ _ _) (c .before .before .before .before .before .r .given .1)
+    (c .before .before .before .before .before .before .before .judge .ensures))
 
 cast-resize : tie.Need-cast-resize
 cast-resize c =
@@ -54,42 +24,38 @@ cast-resize c =
 resize-requires : tie.Need-resize-requires
 resize-requires c κs =
     let n = subst (Means _ _ _ _) (c .before .before .before .row .given .1) (c .before .before .before .before .before .judge .ensures) in
-    can-resize _ _ _ _ _ _ _ _ _ (n .0) (n .1)
+    can-resize _ _ _ _ _ _ _ _ (n .0) (n .1)
 
-move-on-requires-2 : tie.Need-move-on-requires-2
-move-on-requires-2 c κs =
-    let n = subst (Means _ _ _ _) (c .before .before .before .before .before .before .before .before .before .row .given .1) (c .before .before .before .before .before .before .before .before .before .before .before .judge .ensures) in
-    (c .before .before .before .before .before .resize .kept .0 ∙ book-long _ _ (n .0 .areas), resized-number _ _ _ _ _ _ _ _ _ (n .0) (n .1) _ _ (c .before .before .before .before .before .resize .ensures .0) (c .before .before .before .before .before .resize .ensures .1))
+move-on-requires : tie.Need-move-on-requires
+move-on-requires c κs =
+    let up8 = c .before .before .before .before .before .before .before .before in
+    let n = subst (Means _ _ _ _) (up8 .before .row .given .1) (up8 .before .before .before .judge .ensures) in (
+      c .before .before .before .before .before .resize .kept .0 ∙ book-long _ _ (n .0 .areas),
+      resized-number _ _ _ _ _ _ _ _ (n .0) (n .1) _ _
+          (c .before .before .before .before .before .resize .ensures .0) (c .before .before .before .before .before .resize .ensures .1),
+    )
 
-same-length-5 : tie.Need-same-length-5
-same-length-5 c = search needs
-
-same-length-6 : tie.Need-same-length-6
-same-length-6 c = search needs
-
-returns-3 : tie.Need-returns-3
-returns-3 c =
-    let n = subst (Means _ _ _ _) (c .before .before .before .before .before .before .before .before .before .before .before .before .row .given .1) (c .before .before .before .before .before .before .before .before .before .before .before .before .before .before .judge .ensures) in
-    resize-done _ _ _ _ _ _ _ _ _ (n .0) (n .1) _ _ (c .before .before .before .before .before .before .before .before .resize .ensures .0) (c .before .before .before .before .before .before .before .before .resize .ensures .1) _ (c .before .before .move-on2 .kept .0 ∙ c .before .before .before .before .before .before .before .before .resize .kept .0) (c .before .before .move-on2 .ensures)
+returns-2 : tie.Need-returns-2
+returns-2 c =
+    let up8 = c .before .before .before .before .before .before .before .before in
+    let n = subst (Means _ _ _ _) (up8 .before .before .before .before .row .given .1) (up8 .before .before .before .before .before .before .judge .ensures) in
+    resize-done _ _ _ _ _ _ _ _ (n .0) (n .1) _ _ (up8 .resize .ensures .0) (up8 .resize .ensures .1) _ (c .before .before .move-on .kept .0 ∙ up8 .resize .kept .0)
+    (c .before .before .move-on .ensures)
 
 pub resize-spec : {M : Type 1} → statement M
 resize-spec =
     tie.close
     (tie.spec
-    judge-requires
-    enum-known-row
-    enum-known-k
-    move-on-requires
-    same-length
-    same-length-2
+    (λ c κs. search needs)
+    (λ c. search needs)
+    (λ c. search needs)
+    leave-requires
+    (λ c. search needs)
+    (λ c. search needs)
     returns
-    enum-known-k-2
-    same-length-3
-    same-length-4
-    returns-2
     cast-resize
     resize-requires
-    move-on-requires-2
-    same-length-5
-    same-length-6
-    returns-3)
+    move-on-requires
+    (λ c. search needs)
+    (λ c. search needs)
+    returns-2)

@@ -1,21 +1,15 @@
 use mathlib.Core.Path.{sym, _∙_}
+use Rattle.calls.specs.Laws.Conditions.{first-holds, first-fails}
 use borrow.Author.Needs.{needs}
-use borrow.Author.Tests.{not-true, not-false}
-use Rattle.calls.specs.Laws.SetClearance.{clearance-fails, clearance-rests}
 use Rattle.calls.proofs.set_clearance.allowed.Statement.{statement}
 use Rattle.calls.proofs.set_clearance.allowed.Tie as tie
 
-flows-requires : tie.Need-flows-requires
-flows-requires c κs = search needs
-
 returns : tie.Need-returns
-returns c = sym (clearance-fails _ _ _ (sym (c .before .flows .ensures) ∙ not-true (c .before .flows .result) (c .if1 .taken)))
-
-flows-join-high-requires : tie.Need-flows-join-high-requires
-flows-join-high-requires c κs = search needs
+returns c = sym (first-fails _ _ _ (sym (c .before .before .before .flow .ensures) ∙ c .before .r .given .1))
 
 returns-2 : tie.Need-returns-2
-returns-2 c = c .flows-join-high .ensures ∙ sym (clearance-rests _ _ _ (sym (c .before .before .flows .ensures) ∙ not-false (c .before .before .flows .result) (c .before .if1 .left)))
+returns-2 c = c .flow-join-high .ensures ∙ sym (first-holds _ _ (sym (c .before .before .before .flow .ensures) ∙ c .before .enum-told .given .1))
 
 pub allowed-spec : {M : Type 1} → statement M
-allowed-spec = tie.close (tie.spec flows-requires returns flows-join-high-requires returns-2)
+allowed-spec =
+    tie.close (tie.spec (λ c κs. search needs) (λ c. search needs) (λ c. search needs) returns (λ c κs. search needs) returns-2)

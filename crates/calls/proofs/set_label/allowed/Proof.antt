@@ -1,21 +1,15 @@
 use mathlib.Core.Path.{sym, _∙_}
+use Rattle.calls.specs.Laws.Conditions.{first-holds, first-fails}
 use borrow.Author.Needs.{needs}
-use borrow.Author.Tests.{not-true, not-false}
-use Rattle.calls.specs.Laws.SetLabel.{label-fails, label-rests}
 use Rattle.calls.proofs.set_label.allowed.Statement.{statement}
 use Rattle.calls.proofs.set_label.allowed.Tie as tie
 
-flows-requires : tie.Need-flows-requires
-flows-requires c κs = search needs
-
 returns : tie.Need-returns
-returns c = sym (label-fails _ _ _ (sym (c .before .flows .ensures) ∙ not-true (c .before .flows .result) (c .if1 .taken)))
-
-flows-requires-2 : tie.Need-flows-requires-2
-flows-requires-2 c κs = search needs
+returns c = sym (first-fails _ _ _ (sym (c .before .before .before .flow .ensures) ∙ c .before .r .given .1))
 
 returns-2 : tie.Need-returns-2
-returns-2 c = c .flows2 .ensures ∙ sym (label-rests _ _ _ (sym (c .before .before .flows .ensures) ∙ not-false (c .before .before .flows .result) (c .before .if1 .left)))
+returns-2 c = c .flow2 .ensures ∙ sym (first-holds _ _ (sym (c .before .before .before .flow .ensures) ∙ c .before .enum-told .given .1))
 
 pub allowed-spec : {M : Type 1} → statement M
-allowed-spec = tie.close (tie.spec flows-requires returns flows-requires-2 returns-2)
+allowed-spec =
+    tie.close (tie.spec (λ c κs. search needs) (λ c. search needs) (λ c. search needs) returns (λ c κs. search needs) returns-2)

@@ -1,51 +1,29 @@
-use native.Mathlib.Omega.{arith}
 use mathlib.Core.Path.{sym, ap₂, subst, _∙_}
-use borrow.Author.Tests.{not-true, not-false}
 use Rattle.calls.specs.Begun.{BegunAs}
 use Rattle.calls.specs.Laws.Prelude.{book-long}
-use Rattle.labels.specs.Core.{mayWrite}
-use Rattle.calls.specs.Laws.Begun.{stopped-verdict, nobody-verdict, caller-low}
+use Rattle.labels.specs.declared.Label.{Label}
+use Rattle.rules.specs.Kernel.{writing}
+use Rattle.calls.specs.Conditions.{tested}
+use Rattle.calls.specs.Laws.Begun.{caller-low}
 use Rattle.calls.specs.Laws.Entry.{container-below}
 use Rattle.calls.specs.Laws.Unreference.{none-five, write-seven, to-cut}
 use borrow.Author.Needs.{needs}
 use Rattle.calls.proofs.unreference.judge.Statement.{statement}
 use Rattle.calls.proofs.unreference.judge.Tie as tie
-
-begin-requires : tie.Need-begin-requires
-begin-requires c κs = search needs
-
-enum-known-t : tie.Need-enum-known-t
-enum-known-t c = search needs
-
-enum-told : tie.Need-enum-told
-enum-told c = search needs
+use Rattle.calls.specs.Laws.Leave.{told}
 
 returns : tie.Need-returns
-returns c =
-    let n = subst (BegunAs _ _ _) (c .enum-told .given .1) (c .before .before .begin .ensures) in
-    (nobody-verdict _ _ _ _ (n .0) (n .1), omega arith, n .0)
-
-enum-known-k : tie.Need-enum-known-k
-enum-known-k c = search needs
-
-returns-2 : tie.Need-returns-2
-returns-2 c = stopped-verdict _ _ _ _ _ (subst (BegunAs _ _ _) (c .before .k .given .1) (c .before .before .before .begin .ensures))
+returns c = subst (BegunAs _ _ _) (c .before .r .given .1) (c .before .before .before .begin .ensures) _
 
 open-entry-requires : tie.Need-open-entry-requires
 open-entry-requires c κs =
     let by = subst (BegunAs _ _ _) (c .before .t .given .1) (c .before .before .before .begin .ensures) in
     (book-long _ _ (by .ready .areas), caller-low _ _ _ _ by)
 
-enum-known-container : tie.Need-enum-known-container
-enum-known-container c = search needs
-
-enum-told-2 : tie.Need-enum-told-2
-enum-told-2 c = search needs
-
-returns-3 : tie.Need-returns-3
-returns-3 c =
+returns-2 : tie.Need-returns-2
+returns-2 c =
     let by = subst (BegunAs _ _ _) (c .before .before .before .before .t .given .1) (c .before .before .before .before .before .before .begin .ensures) in
-    (none-five _ _ _ _ _ _ by (sym (c .before .before .open-entry .ensures) ∙ c .enum-told2 .given .1), omega arith, by .ready)
+    told (none-five _ _ _ _ _ _ by (sym (c .before .before .open-entry .ensures) ∙ c .enum-told .given .1)) (by .ready)
 
 label-of-requires : tie.Need-label-of-requires
 label-of-requires c κs =
@@ -54,46 +32,48 @@ label-of-requires c κs =
 
 label-of-requires-2 : tie.Need-label-of-requires-2
 label-of-requires-2 c κs =
+    let up8 = c .before .before .before .before .before .before .before .before in
     let by = subst (BegunAs _ _ _) (c .before .before .before .before .before .before .t .given .1)
-    (c .before .before .before .before .before .before .before .before .begin .ensures) in
+    (up8 .begin .ensures) in
     let e = sym (c .before .before .before .before .open-entry .ensures) ∙ c .before .before .container .given .1 in
     (book-long _ _ (by .ready .areas), container-below _ _ _ _ _ _ by _ _ _ e)
 
-may-write-requires : tie.Need-may-write-requires
-may-write-requires c κs = search needs
+returns-3 : tie.Need-returns-3
+returns-3 c =
+    let up8 = c .before .before .before .before .before .before .before .before in
+    let by = subst (BegunAs _ _ _) (up8 .before .before .before .t .given .1)
+    (up8 .before .before .before .before .before .begin .ensures) in
+    let e = sym (up8 .before .open-entry .ensures) ∙ c .before .before .before .before .before .before .before .container .given .1 in
+    let w = ap₂ (λ (x y : Label). tested (writing x y)) (sym (c .before .before .before .before .before .label-of .ensures))
+    (sym (c .before .before .before .before .label-of2 .ensures)) ∙ sym (c .before .before .before .writing .ensures) in
+    write-seven _ _ _ _ _ _ by _ _ _ e _ (w ∙ c .before .r2 .given .1)
 
 returns-4 : tie.Need-returns-4
 returns-4 c =
-    let by = subst (BegunAs _ _ _) (c .before .before .before .before .before .before .before .before .before .t .given .1)
-    (c .before .before .before .before .before .before .before .before .before .before .before .begin .ensures) in
-    let e = sym (c .before .before .before .before .before .before .before .open-entry .ensures) ∙ c .before .before .before .before .before .container .given .1 in
-    let w = ap₂ mayWrite (sym (c .before .before .before .label-of .ensures)) (sym (c .before .before .label-of2 .ensures)) ∙ sym (c .before .may-write .ensures) in
-    (write-seven _ _ _ _ _ _ by _ _ _ e (w ∙ not-true (c .before .may-write .result) (c .if1 .taken)), omega arith, by .ready)
-
-returns-5 : tie.Need-returns-5
-returns-5 c =
-    let by = subst (BegunAs _ _ _) (c .before .before .before .before .before .before .before .before .before .t .given .1)
-    (c .before .before .before .before .before .before .before .before .before .before .before .begin .ensures) in
-    let e = sym (c .before .before .before .before .before .before .before .open-entry .ensures) ∙ c .before .before .before .before .before .container .given .1 in
-    let w = ap₂ mayWrite (sym (c .before .before .before .label-of .ensures)) (sym (c .before .before .label-of2 .ensures)) ∙ sym (c .before .may-write .ensures) in
-    (by .ready, to-cut _ _ _ _ _ _ by _ _ _ e (w ∙ not-false (c .before .may-write .result) (c .if1 .left)))
+    let up8 = c .before .before .before .before .before .before .before .before in
+    let by = subst (BegunAs _ _ _) (up8 .before .before .t .given .1)
+    (up8 .before .before .before .before .begin .ensures) in
+    let e = sym (up8 .open-entry .ensures) ∙ c .before .before .before .before .before .before .container .given .1 in
+    let w = ap₂ (λ (x y : Label). tested (writing x y)) (sym (c .before .before .before .before .label-of .ensures)) (sym (c .before .before .before .label-of2 .ensures)) ∙ sym
+    (c .before .before .writing .ensures) in
+    (by .ready, to-cut _ _ _ _ _ _ by _ _ _ e (w ∙ c .enum-told2 .given .1))
 
 pub judge-spec : {M : Type 1} → statement M
 judge-spec =
     tie.close
     (tie.spec
-    begin-requires
-    enum-known-t
-    enum-told
+    (λ c κs. search needs)
+    (λ c. search needs)
+    (λ c. search needs)
     returns
-    enum-known-k
-    returns-2
     open-entry-requires
-    enum-known-container
-    enum-told-2
-    returns-3
+    (λ c. search needs)
+    (λ c. search needs)
+    returns-2
     label-of-requires
     label-of-requires-2
-    may-write-requires
-    returns-4
-    returns-5)
+    (λ c κs. search needs)
+    (λ c. search needs)
+    (λ c. search needs)
+    returns-3
+    returns-4)

@@ -45,16 +45,4 @@ returns c = let l = c .before .loop in (omega arith, sym (l .inv .3 ∙ put-end 
 
 pub copy-spec : {M : Type 1} → statement M
 copy-spec =
-    tie.close
-    (tie.spec
-    Inv-loop
-    μ-loop
-    loop-holds
-    shared-slice-read-out
-    slice-write-out
-    add-place
-    add-i
-    loop-less
-    loop-again
-    same-length
-    returns)
+    tie.close (tie.spec Inv-loop μ-loop loop-holds shared-slice-read-out slice-write-out add-place add-i loop-less loop-again same-length returns)

@@ -4,12 +4,9 @@ use Rattle.labels.specs.Le.{leAt}
 use Rattle.tables.proofs.bytes.get_u8.Statement.{statement}
 use Rattle.tables.proofs.bytes.get_u8.Tie as tie
 
-shared-slice-read-result : tie.Need-shared-slice-read-result
-shared-slice-read-result c = search needs
-
 returns : tie.Need-returns
 unfolding leAt
 returns c = omega arith
 
 pub get-u8-spec : {M : Type 1} → statement M
-get-u8-spec = tie.close (tie.spec shared-slice-read-result returns)
+get-u8-spec = tie.close (tie.spec (λ c. search needs) returns)

@@ -7,15 +7,9 @@ use Rattle.labels.specs.Le.{leSet}
 use Rattle.tables.proofs.bytes.put_u8.Statement.{statement}
 use Rattle.tables.proofs.bytes.put_u8.Tie as tie
 
-slice-write-b : tie.Need-slice-write-b
-slice-write-b c = search needs
-
-same-length : tie.Need-same-length
-same-length c = search needs
-
 returns : tie.Need-returns
 unfolding leSet
 returns c = ap (λ (n : ℕ). set (c .args .b .now) (c .args .from) n) (sym (mod-eq-of-lt (c .fits .v .fits)))
 
 pub put-u8-spec : {M : Type 1} → statement M
-put-u8-spec = tie.close (tie.spec slice-write-b same-length returns)
+put-u8-spec = tie.close (tie.spec (λ c. search needs) (λ c. search needs) returns)
