@@ -1,28 +1,14 @@
 -- Codes of kinds and kinds: what a row's code says of the kind of its object.
-use Prim.Native.Nat.{ℕ, zero, suc, _<_, _≤_}
+use Prim.Native.Nat.{ℕ, _≤_}
 use native.Mathlib.Omega.{arith}
 use mathlib.Core.Bool.{Bool, not, _||_}
-use mathlib.Core.Path.{_≡_, refl, sym, _∙_, ap, ap₂}
+use mathlib.Core.Path.{_≡_, sym, _∙_, ap, ap₂}
 use lib.Dec.{eqb, leb}
 use borrow.Author.Tests.{eqb-true, eqb-false, eq-eqb, ne-eqb, le-leb, leb-true, leb-false}
-use Rattle.rules.specs.Kernel.{threadCode, gateCode, segmentCode, containerCode, maxCode, Kind, absent, kindCode, isLive, isThread, isGate, isSegment, isContainer, hasClearance}
+use Rattle.rules.specs.Kernel.{threadCode, gateCode, segmentCode, containerCode, maxCode, Kind, kindCode, isLive, isThread, isGate, isSegment, isContainer, hasClearance}
 use Rattle.rules.specs.Laws.Bools.{bool-cases, same-by, or-cases, or-i-l, or-i-r}
+use Rattle.rules.specs.Laws.Kinds.{code-from, code-other}
 use Rattle.book.specs.Book.{kindFrom, isThreadOrGate}
-
--- The kind of a code has that code.
-pub code-from : (n : ℕ) → n ≤ maxCode → kindCode (kindFrom n) ≡ n
-unfolding kindFrom kindCode
-code-from zero h = refl
-code-from (suc zero) h = refl
-code-from (suc (suc zero)) h = refl
-code-from (suc (suc (suc zero))) h = refl
-code-from (suc (suc (suc (suc zero)))) h = refl
-code-from (suc (suc (suc (suc (suc n))))) h = absurd (omega arith)
-
--- Codes above the last are no kind's.
-pub code-other : (n : ℕ) → maxCode < n → kindFrom n ≡ absent
-unfolding kindFrom
-code-other n h = rw (ne-eqb n threadCode (λ e. omega arith), ne-eqb n gateCode (λ e. omega arith), ne-eqb n segmentCode (λ e. omega arith), ne-eqb n containerCode (λ e. omega arith))
 
 -- a test of a code other than 0
 code-is : (n c : ℕ) → 1 ≤ c → c ≤ maxCode → eqb (kindCode (kindFrom n)) c ≡ eqb n c

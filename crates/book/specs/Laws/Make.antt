@@ -10,11 +10,12 @@ use lib.Seq.{getD-set-same, getD-set-other}
 use lib.Dec.{eqb}
 use borrow.Author.Tests.{eqb-true, eq-eqb}
 use Rattle.quotas.specs.Any.{both, both-of, both-parts}
-use Rattle.rules.specs.Kernel.{segmentCode, containerCode, maxCode, Kind, absent, thread, gate, segment, container, Obj, kindCode, create, link, put, linkIn, apply, spareOf}
+use Rattle.rules.specs.Kernel.{segmentCode, containerCode, maxCode, Obj, kindCode, create, link, put, linkIn, apply, spareOf}
 use Rattle.rules.specs.Laws.Bools.{not-i, not-both, same-by}
 use Rattle.rules.specs.Laws.Put.{put-same, put-other, link-new, link-old, link-cases}
-use Rattle.tables.specs.Layout.{View, rowCount, linkCount, nextT, linkFromT, linkToT}
+use Rattle.rules.specs.Laws.Kinds.{kind-most}
 use Rattle.rules.specs.Laws.Worlds.{world-ext}
+use Rattle.tables.specs.Layout.{View, rowCount, linkCount, nextT, linkFromT, linkToT}
 use Rattle.book.specs.declared.Found.the-variants.{At}
 use Rattle.book.specs.Book.{nextOf, rootOf, idOf, codeOf, fixedOf, lenOf, markOf, fromOf, toOf, ownerOf, indexOf, liveRow, blocksOf, placeOf, blockAt, bytesOf, objectAt, hasId, rowOf, worldOf}
 use Rattle.book.specs.Sound.{Live, On, Used, Owned, Sound, timesHeld}
@@ -349,15 +350,6 @@ moved-obj v area o =
     found-cases (rowOf v o)
     (λ r e. obj-found (movedOn v) area o r (moved-row v o ∙ e) ∙ moved-object v area r ∙ sym (obj-found v area o r e))
     (λ e. obj-missing (movedOn v) area o (moved-row v o ∙ e) ∙ sym (obj-missing v area o e))
-
--- Codes of kinds go up to 4.
-pub kind-most : (k : Kind) → kindCode k ≤ maxCode
-unfolding kindCode
-kind-most absent = omega arith
-kind-most thread = omega arith
-kind-most gate = omega arith
-kind-most segment = omega arith
-kind-most container = omega arith
 
 -- ---- a create
 

@@ -15,8 +15,9 @@ use Rattle.rules.specs.Sound as W
 use Rattle.rules.specs.Laws.Bools.{and-r, not-i, bool-cases}
 use Rattle.rules.specs.Laws.Put.{put-same, put-other}
 use Rattle.rules.specs.Laws.StartSound.{start-sound}
-use Rattle.tables.specs.Layout.{View, rowCount, linkCount, blockCount, nextT, rootT, zeros, empty, putT}
+use Rattle.rules.specs.Laws.Kinds.{kind-most}
 use Rattle.rules.specs.Laws.Worlds.{world-ext}
+use Rattle.tables.specs.Layout.{View, rowCount, linkCount, blockCount, nextT, rootT, zeros, empty, putT}
 use Rattle.book.specs.Book.{nextOf, rootOf, idOf, codeOf, markOf, ownerOf, worldOf}
 use Rattle.book.specs.Sound.{Live, On, Sound}
 use Rattle.book.specs.Placed.{Placed}
@@ -28,7 +29,7 @@ use Rattle.book.specs.Laws.SoundBy.{sound-by}
 use Rattle.book.specs.Laws.Shapes.{empty-shape, put-shape}
 use Rattle.book.specs.Laws.Handed.{container-handed, thread-handed, row-is-container, row-is-thread}
 use Rattle.book.specs.Laws.Filled.{Fresh, container-fresh, thread-fresh, filled-id-other, filled-code-other, filled-id, filled-shape}
-use Rattle.book.specs.Laws.Make.{filled-live, live-still, filled-obj, filled-linked, filled-placed, linked-obj, linked-more, linked-placed, kind-most}
+use Rattle.book.specs.Laws.Make.{filled-live, live-still, filled-obj, filled-linked, filled-placed, linked-obj, linked-more, linked-placed}
 
 -- A list of zeros.
 pub all-zero : (l : List ℕ) → ((i : ℕ) → i < length l → getD l i 0 ≡ 0) → l ≡ replicate (length l) 0

@@ -11,13 +11,13 @@ use Rattle.labels.specs.declared.Label.{Label}
 use Rattle.labels.specs.Core.{mayRead, wordsBytes, wordCount}
 use Rattle.labels.specs.Core.Formed.{formed-default-top}
 use Rattle.rules.specs.Kernel.{threadCode, maxCode, Obj, refuse, grant, must, judge, opens, entry, look, keep, kindCode, lookBytes, lookSize, goodArguments}
+use Rattle.rules.specs.Laws.Kinds.{code-from}
 use Rattle.tables.specs.Layout.{View, view}
 use Rattle.book.specs.declared.Found.the-variants.{At, Nothing}
 use Rattle.book.specs.declared.find.Entry.the-variants as place
 use Rattle.book.specs.Book.{nextOf, codeOf, labelOf, objectAt, worldOf, onFound, isThreadOrGate}
 use Rattle.book.specs.Sound.{Live}
 use Rattle.book.specs.Enact.{movedOn, enactView, enactArea}
-use Rattle.book.specs.Laws.Codes.{code-from}
 use Rattle.book.specs.Laws.First.{found-cases, on-at, on-nothing}
 use Rattle.book.specs.Laws.Find.{container-found}
 use Rattle.book.specs.Laws.Tie.{object-kind, object-label, object-description, object-thread}

@@ -1,10 +1,11 @@
--- The tests of kinds: each is of one kind, so they exclude each other.
-use Prim.Native.Nat.{ℕ}
+-- Kinds and their codes, and the tests of kinds: each is of one kind, so they exclude each other.
+use Prim.Native.Nat.{ℕ, zero, suc, _<_, _≤_}
+use native.Mathlib.Omega.{arith}
 use mathlib.Core.Bool.{true, false}
 use mathlib.Core.Path.{_≡_, refl, sym, _∙_, ap, subst}
 use lib.Dec.{eqb}
-use borrow.Author.Tests.{eqb-true}
-use Rattle.rules.specs.Kernel.{threadCode, gateCode, segmentCode, containerCode, Kind, absent, thread, gate, segment, container, kindCode, kindFrom, isLive, isThread, isGate}
+use borrow.Author.Tests.{eqb-true, ne-eqb}
+use Rattle.rules.specs.Kernel.{threadCode, gateCode, segmentCode, containerCode, maxCode, Kind, absent, thread, gate, segment, container, kindCode, kindFrom, isLive, isThread, isGate}
 use Rattle.rules.specs.Kernel.{isSegment, isContainer, hasClearance, nothing}
 use Rattle.rules.specs.Laws.Bools.{or-cases}
 
@@ -16,6 +17,28 @@ kind-from thread = refl
 kind-from gate = refl
 kind-from segment = refl
 kind-from container = refl
+
+-- Up to the last code each is its kind's, and above it none is.
+pub kind-most : (k : Kind) → kindCode k ≤ maxCode
+unfolding kindCode
+kind-most absent = omega arith
+kind-most thread = omega arith
+kind-most gate = omega arith
+kind-most segment = omega arith
+kind-most container = omega arith
+
+pub code-from : (n : ℕ) → n ≤ maxCode → kindCode (kindFrom n) ≡ n
+unfolding kindFrom kindCode
+code-from zero h = refl
+code-from (suc zero) h = refl
+code-from (suc (suc zero)) h = refl
+code-from (suc (suc (suc zero))) h = refl
+code-from (suc (suc (suc (suc zero)))) h = refl
+code-from (suc (suc (suc (suc (suc n))))) h = absurd (omega arith)
+
+pub code-other : (n : ℕ) → maxCode < n → kindFrom n ≡ absent
+unfolding kindFrom
+code-other n h = rw (ne-eqb n threadCode (λ e. omega arith), ne-eqb n gateCode (λ e. omega arith), ne-eqb n segmentCode (λ e. omega arith), ne-eqb n containerCode (λ e. omega arith))
 
 kind-by : (k : Kind) (n : ℕ) → eqb (kindCode k) n ≡ true → k ≡ kindFrom n
 kind-by k n h = sym (kind-from k) ∙ ap kindFrom (eqb-true (kindCode k) n h)
