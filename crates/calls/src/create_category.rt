@@ -2,6 +2,7 @@
 ghost use mathlib.Core.Path.{_≡_};
 ghost use mathlib.Core.Bool.{cond};
 ghost use Prim.Native.Nat.{_<_};
+ghost use Rattle.labels.specs.Core.{categoryLimit};
 ghost use Rattle.rules.specs.Kernel.{clearedAt, createCategory};
 ghost use Rattle.calls.specs.CreateCategory.{clearsB, CategoryJudged};
 ghost use Rattle.calls.specs.Outcome.{Done};
@@ -21,7 +22,7 @@ use labels::pair::with_pair;
 
 // The clearance with level 3 at the category n: no pair if its default is that.
 fn cleared(c: Label, n: u64) -> Paired
-    requires { ⌜ n < 2305843009213693952 ⌝ }
+    requires { ⌜ n < categoryLimit ⌝ }
     ensures { λ r. ⌜ (r .fits ≡ clearsB c) × (r .label ≡ cond (clearsB c) (clearedAt n c) c) ⌝ }
 {
     if c.default == Label::LEVEL3 {

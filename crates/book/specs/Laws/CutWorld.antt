@@ -1,5 +1,5 @@
 -- Call 8 on the book: the world of what a cut leaves is the world cut.
-use Prim.Native.Nat.{ℕ, suc, _+_, _*_, _-_, _/_, _%_, _<_, _≤_}
+use Prim.Native.Nat.{ℕ, suc, _+_, _*_, _-_, _/_, _%_, _<_}
 use native.Mathlib.Numerals.{add-one}
 use native.Mathlib.Omega.{arith}
 use mathlib.Core.Bool.{Bool, true, false, cond, false≢true}
@@ -11,9 +11,7 @@ use lib.Dec.{eqb}
 use borrow.Author.Tests.{eqb-true, eq-eqb, ne-eqb}
 use Rattle.quotas.specs.Any.{both, both-parts}
 use Rattle.quotas.specs.Sum.{when, sum-cong, sum-pos, when-pos}
-use Rattle.rules.specs.Kernel.{segmentCode, containerCode, Obj, nothing, cut, stays, kept, apply, blockSize, lastNumber}
-use Rattle.rules.specs.Sound as W
-use Rattle.rules.specs.Laws.KeepCut.{keep-cut}
+use Rattle.rules.specs.Kernel.{segmentCode, containerCode, Obj, nothing, cut, stays, kept, apply, blockSize}
 use Rattle.rules.specs.Laws.Bools.{bool-cases, not-both, same-by}
 use Rattle.rules.specs.Laws.Below.{stays-linked, stays-not-below, stays-kept, container-kept}
 use Rattle.tables.specs.Layout.{View, rowCount, linkCount, blockCount, nextT, kindT, linkFromT, ownerT}
@@ -31,7 +29,6 @@ use Rattle.book.specs.Laws.Cleared.{if-true, if-false}
 use Rattle.book.specs.Laws.Codes.{segment-from}
 use Rattle.book.specs.Laws.Tie.{row-is, row-none, obj-found, obj-missing, obj-none, obj-at, container-at, linked-at, linked-is, world-next, world-root}
 use Rattle.book.specs.Laws.WorldSound.{placed, world-sound}
-use Rattle.book.specs.Laws.SoundBy.{sound-by}
 use Rattle.book.specs.Laws.Shapes.{on-shape, put-shape}
 
 -- ---- a number that stays where a test holds, and else is 0
@@ -333,12 +330,6 @@ module _ (v : View) (area : List ℕ) (shape : Shape v) (s : Sound v) (d o : ℕ
   -- and everything in it stands where it belongs.
   pub cut-placed : Placed (movedOn (cutView d o v area))
   cut-placed = left-placed v area shape s d o (movedOn (cutView d o v area)) (cut-left v area d o)
-
-  -- What is left is sound.
-  pub cut-sound : nextOf v ≤ lastNumber → Sound (movedOn (cutView d o v area))
-  cut-sound h =
-      sound-by (movedOn (cutView d o v area)) (cutArea d o v area) cut-placed
-      (subst W.Sound (sym cut-world) (keep-cut (worldOf v area) (world-sound v area shape s) d o (omega (arith, world-next v area))))
 
 -- Its tables have their lengths.
 pub cut-shape : (v : View) (area : List ℕ) (d o : ℕ) → Shape v → Shape (movedOn (cutView d o v area))

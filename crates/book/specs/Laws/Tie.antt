@@ -223,18 +223,12 @@ module _ (v : View) (area : List ℕ) (p : Placed v) where
   pub quota-at : (r : ℕ) → Live v r → ((worldOf v area) .obj (idOf v r)) .quota ≡ quotaOf v r
   quota-at r a = ap (λ (x : Obj). x .quota) (obj-at r a) ∙ object-quota v area r
 
-  pub label-at : (r : ℕ) → Live v r → ((worldOf v area) .obj (idOf v r)) .label ≡ labelOf v r
-  label-at r a = ap (λ (x : Obj). x .label) (obj-at r a) ∙ object-label v area r
-
   -- The object of a live row is live.
   pub live-at : (r : ℕ) → Live v r → isLive (((worldOf v area) .obj (idOf v r)) .kind) ≡ true
   live-at r a = ap (λ (x : Obj). isLive (x .kind)) (obj-at r a) ∙ object-live v area r (p .code-most r a) ∙ live-test v r a
 
   pub thread-at : (r : ℕ) → Live v r → isThread (((worldOf v area) .obj (idOf v r)) .kind) ≡ eqb (codeOf v r) threadCode
   thread-at r a = ap isThread (kind-at r a) ∙ thread-from (codeOf v r)
-
-  pub gate-at : (r : ℕ) → Live v r → isGate (((worldOf v area) .obj (idOf v r)) .kind) ≡ eqb (codeOf v r) gateCode
-  gate-at r a = ap isGate (kind-at r a) ∙ gate-from (codeOf v r)
 
   pub segment-at : (r : ℕ) → Live v r → isSegment (((worldOf v area) .obj (idOf v r)) .kind) ≡ eqb (codeOf v r) segmentCode
   segment-at r a = ap isSegment (kind-at r a) ∙ segment-from (codeOf v r)
@@ -316,14 +310,6 @@ unfolding both
 both-assoc true b c = refl
 both-assoc false b c = refl
 
-both-turn : (a b c : Bool) → both a (both b c) ≡ both (both a c) b
-unfolding both
-both-turn true true true = refl
-both-turn true true false = refl
-both-turn true false true = refl
-both-turn true false false = refl
-both-turn false b c = refl
-
 when-both : (a b : Bool) (x : ℕ) → when (both a b) x ≡ when a (when b x)
 unfolding both when
 when-both true b x = refl
@@ -377,48 +363,6 @@ module _ (v : View) (area : List ℕ) (p : Placed v) (below : (r : ℕ) → Live
           (λ s. eq-eqb (idOf v (fromOf v l)) (idOf v c) (ap (idOf v) (eqb-true (fromOf v l) c s))))
           (quota-at v area p (toOf v l) (p .to-live l x)))
 
-  -- How many links lead to a row is how many ids hold its id.
-  pub links-at : (r : ℕ) → Live v r → linksTo v r ≡ Σ (nextOf v) (λ d. when ((worldOf v area) .linked d (idOf v r)) 1)
-  unfolding linksTo
-  links-at r a = unfold worldOf in
-      sym (sum-cong (nextOf v) (λ d. when (any linkCount (isLink v d (idOf v r))) 1) (λ d. when (any linkCount (λ l. both (on l) (eqb (key l) d))) 1)
-      (λ d h. ap (λ (t : Bool). when t 1) (any-cong linkCount (isLink v d (idOf v r)) (λ l. both (on l) (eqb (key l) d))
-      (λ l k. both-turn (liveLink v l) (eqb (key l) d) (eqb (idOf v (toOf v l)) (idOf v r)))))
-      ∙ sum-keys (nextOf v) linkCount on key (λ d. 1) low apart
-      ∙ sum-cong linkCount (λ l. when (on l) 1) (λ l. when (liveLink v l) (when (eqb (toOf v l) r) 1)) each)
-    where
-      on : ℕ → Bool
-      on l = both (liveLink v l) (eqb (idOf v (toOf v l)) (idOf v r))
-
-      key : ℕ → ℕ
-      key l = idOf v (fromOf v l)
-
-      to-r : (l : ℕ) → l < linkCount → both (liveLink v l) (eqb (idOf v (toOf v l)) (idOf v r)) ≡ true → (On v l) × (toOf v l ≡ r)
-      to-r l h t =
-          let (s, e) = both-parts (liveLink v l) (eqb (idOf v (toOf v l)) (idOf v r)) t in
-          let x = test-on v l h s in
-          (x, same-row v p (toOf v l) r (p .to-live l x) a (eqb-true (idOf v (toOf v l)) (idOf v r) e))
-
-      low : (l : ℕ) → l < linkCount → both (liveLink v l) (eqb (idOf v (toOf v l)) (idOf v r)) ≡ true → idOf v (fromOf v l) < nextOf v
-      low l h t = below (fromOf v l) (p .from-live l (to-r l h t .0))
-
-      apart : (l k : ℕ) → l < linkCount → k < linkCount → both (liveLink v l) (eqb (idOf v (toOf v l)) (idOf v r)) ≡ true
-          → both (liveLink v k) (eqb (idOf v (toOf v k)) (idOf v r)) ≡ true → idOf v (fromOf v l) ≡ idOf v (fromOf v k) → l ≡ k
-      apart l k h i s t e =
-          let (x, f) = to-r l h s in
-          let (y, g) = to-r k i t in
-          same-link v p l k x y (same-row v p (fromOf v l) (fromOf v k) (p .from-live l x) (p .from-live k y) e) (f ∙ sym g)
-
-      each : (l : ℕ) → l < linkCount → when (both (liveLink v l) (eqb (idOf v (toOf v l)) (idOf v r))) 1 ≡ when (liveLink v l) (when (eqb (toOf v l) r) 1)
-      each l h =
-          when-both (liveLink v l) (eqb (idOf v (toOf v l)) (idOf v r)) 1
-          ∙ when-cong (liveLink v l) (when (eqb (idOf v (toOf v l)) (idOf v r)) 1) (when (eqb (toOf v l) r) 1)
-          (λ t. let x = test-on v l h t in
-          ap (λ (b : Bool). when b 1)
-          (same-by (eqb (idOf v (toOf v l)) (idOf v r)) (eqb (toOf v l) r)
-          (λ s. eq-eqb (toOf v l) r (same-row v p (toOf v l) r (p .to-live l x) a (eqb-true (idOf v (toOf v l)) (idOf v r) s)))
-          (λ s. eq-eqb (idOf v (toOf v l)) (idOf v r) (ap (idOf v) (eqb-true (toOf v l) r s)))))
-
   -- ---- units
 
   -- A container uses one unit and what its links come to,
@@ -436,10 +380,6 @@ module _ (v : View) (area : List ℕ) (p : Placed v) where
   use-segment-at r a e =
       use-segment (worldOf v area) (idOf v r) (segment-at v area p r a ∙ eq-eqb (codeOf v r) segmentCode e)
       ∙ ap units (ap (λ (x : Obj). length (x .bytes)) (obj-at v area p r a) ∙ ap (λ (b : List ℕ). length b) (object-bytes v area r e) ∙ bytes-length v area r)
-
-  pub spare-segment-at : (r : ℕ) → Live v r → codeOf v r ≡ segmentCode → spareOf (worldOf v area) (idOf v r) ≡ quotaOf v r - units (lenOf v r)
-  unfolding spareOf
-  spare-segment-at r a e = ap₂ (λ (m n : ℕ). m - n) (quota-at v area p r a) (use-segment-at r a e)
 
   -- a thread or gate one unit.
   pub use-cleared-at : (r : ℕ) → Live v r → ThreadOrGate (codeOf v r) → useOf (worldOf v area) (idOf v r) ≡ 1

@@ -25,19 +25,19 @@ use Rattle.calls.specs.Laws.Conditions.{none-asked}
 
 -- ---- as the code turns it
 
--- below -256
-pub too-low : (z : ℤ) → ltZ z (negsuc 255) ≡ true → Bad ≡ amountOf z
+-- below the limit
+pub too-low : (z : ℤ) → ltZ z (negsuc (maxMove - 1)) ≡ true → Bad ≡ amountOf z
 unfolding amountOf
 too-low (pos k) h = cc
-too-low (negsuc k) h = rw (le-ltb k 256 (omega (arith, ltb-true 255 k h)))
+too-low (negsuc k) h = rw (le-ltb k maxMove (omega (arith, ltb-true (maxMove - 1) k h)))
 
--- above 256
-pub too-high : (z : ℤ) → ltZ (pos 256) z ≡ true → Bad ≡ amountOf z
+-- above it
+pub too-high : (z : ℤ) → ltZ (pos maxMove) z ≡ true → Bad ≡ amountOf z
 unfolding amountOf
 too-high (pos k) h = rw h
 too-high (negsuc k) h = cc
 
-pub within : (z : ℤ) → ltZ z (pos 0) ≡ false → ltZ (pos 256) z ≡ false → In (natAbs z) ≡ amountOf z
+pub within : (z : ℤ) → ltZ z (pos 0) ≡ false → ltZ (pos maxMove) z ≡ false → In (natAbs z) ≡ amountOf z
 unfolding amountOf
 within (pos k) h g = rw g
 within (negsuc k) h g = cc
@@ -46,18 +46,18 @@ pub nonneg : (z : ℤ) → ltZ z (pos 0) ≡ false → SFits w64 z → T (nonNeg
 nonneg (pos k) h f = (tt, record { fits = omega (arith, f .sfits) })
 nonneg (negsuc k) h f = let z : _≡_ {A = ℕ} 0 1 = cc in absurd (omega arith)
 
-pub minus : (z : ℤ) → ltZ z (pos 0) ≡ true → ltZ z (negsuc 255) ≡ false → SFits w64 (pos 0 -ℤ z)
+pub minus : (z : ℤ) → ltZ z (pos 0) ≡ true → ltZ z (negsuc (maxMove - 1)) ≡ false → SFits w64 (pos 0 -ℤ z)
 minus (pos k) h g = let z : k < 0 = ltb-true k 0 h in absurd (omega arith)
-minus (negsuc k) h g = record { sfits = omega (arith, ltb-false 255 k g) }
+minus (negsuc k) h g = record { sfits = omega (arith, ltb-false (maxMove - 1) k g) }
 
-pub minus-nonneg : (z : ℤ) → ltZ z (pos 0) ≡ true → ltZ z (negsuc 255) ≡ false → T (nonNeg (pos 0 -ℤ z)) × Fits w64 (natAbs (pos 0 -ℤ z))
+pub minus-nonneg : (z : ℤ) → ltZ z (pos 0) ≡ true → ltZ z (negsuc (maxMove - 1)) ≡ false → T (nonNeg (pos 0 -ℤ z)) × Fits w64 (natAbs (pos 0 -ℤ z))
 minus-nonneg (pos k) h g = let z : k < 0 = ltb-true k 0 h in absurd (omega arith)
-minus-nonneg (negsuc k) h g = (tt, record { fits = omega (arith, ltb-false 255 k g) })
+minus-nonneg (negsuc k) h g = (tt, record { fits = omega (arith, ltb-false (maxMove - 1) k g) })
 
-pub without : (z : ℤ) → ltZ z (pos 0) ≡ true → ltZ z (negsuc 255) ≡ false → Out (natAbs (pos 0 -ℤ z)) ≡ amountOf z
+pub without : (z : ℤ) → ltZ z (pos 0) ≡ true → ltZ z (negsuc (maxMove - 1)) ≡ false → Out (natAbs (pos 0 -ℤ z)) ≡ amountOf z
 unfolding amountOf
 without (pos k) h g = let z : k < 0 = ltb-true k 0 h in absurd (omega arith)
-without (negsuc k) h g = rw (lt-ltb k 256 (omega (arith, ltb-false 255 k g))) (ap Out (omega arith))
+without (negsuc k) h g = rw (lt-ltb k maxMove (omega (arith, ltb-false (maxMove - 1) k g))) (ap Out (omega arith))
 
 -- ---- as the code goes by it
 
