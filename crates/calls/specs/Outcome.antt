@@ -101,9 +101,13 @@ pub record Told (b area : List ℕ) (v : Verdict) (r : Refusal) : Type 0 where
 pub record Leavable (b : List ℕ) (r : Refusal) : Type 0 where
   pub moves : late r ≡ true → (length b ≡ size) × (nextOf (view b) ≤ lastNumber)
 
--- The answer a is the refusal r, and whatever call that is right for is done by it: with the book b′, an unchanged data area and an output buffer as it was.
+-- The answer a is the refusal r, and the book b′ has its number moved on or is as it was. So whatever call that refusal is right for is done: with an unchanged data area,
+-- and an output buffer as it was.
 pub record LeavesBy (b : List ℕ) (r : Refusal) (a : Answer) (b′ : List ℕ) : Type 0 where
   pub answer : a ≡ Refused (kernel.numberOf (ruled r))
+  pub length-same : length b′ ≡ length b
+  pub moved : late r ≡ true → view b′ ≡ movedOn (view b)
+  pub kept : late r ≡ false → b′ ≡ b
   pub done : (area : List ℕ) (c : ℕ) (x : Call) → Told b area (verdictOn b area c x) r → Done b area c x a b′ area
   pub output : (area : List ℕ) (c : ℕ) (x : Call) → Told b area (verdictOn b area c x) r → (out : List ℕ) → out ≡ outputLeft (verdictOn b area c x) out
 

@@ -114,19 +114,14 @@ fn growth_of(low: &Line, high: &Line) -> Vec<String> {
     grown.iter().map(|number| format!("{:.1}", number)).collect()
 }
 
-/// The first is the deepest there is; of the others the deepest is named.
+/// A row for each call.
 pub fn print_stack(depths: &[Depth]) {
     println!();
     println!("Bytes of stack, with the host's wrapper: the proved kernel, the Rust kernel.");
     println!();
     let widths = [40, 8, 8];
     print_head(&["call", "proved", "Rust"], &widths);
-    let (deepest, others) = depths.split_first().expect("some depths");
-    let cells =
-        |name: &str, first: usize, second: usize| [name.to_string(), first.to_string(), second.to_string()];
-    print_row(&cells(deepest.name, deepest.first, deepest.second), &widths);
-    if let Some(next) = others.iter().max_by_key(|depth| depth.first) {
-        let name = format!("deepest of the others ({})", next.name);
-        print_row(&cells(&name, next.first, next.second), &widths);
+    for depth in depths {
+        print_row(&[depth.name.to_string(), depth.first.to_string(), depth.second.to_string()], &widths);
     }
 }

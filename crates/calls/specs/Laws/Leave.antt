@@ -1,10 +1,10 @@
 -- The way out of a refused call.
 use Prim.Native.Nat.{ℕ, _≤_, _<_}
-use mathlib.Core.Bool.{true, not}
-use mathlib.Core.Path.{_≡_, sym, ap, subst}
+use mathlib.Core.Bool.{true, false, not, false≢true}
+use mathlib.Core.Path.{_≡_, refl, sym, ap, subst, _∙_}
 use mathlib.Core.List.{List}
 use lib.ListN.{length}
-use borrow.Author.Tests.{lt-leb}
+use borrow.Author.Tests.{le-leb, lt-leb}
 use Rattle.rules.specs.Kernel as kernel
 use Rattle.rules.specs.Kernel.{Verdict, refused}
 use Rattle.tables.specs.Layout.{view, size}
@@ -27,6 +27,9 @@ module _ {b area : List ℕ} {v : Verdict} {r : Refusal} where
 is-late : (r : Refusal) (n : ℕ) → n ≡ kernel.numberOf (ruled r) → 2 < n → late r ≡ true
 is-late r n e l = ap not (lt-leb (kernel.numberOf (ruled r)) 2 (subst (λ m. 2 < m) e l))
 
+is-early : (r : Refusal) (n : ℕ) → n ≡ kernel.numberOf (ruled r) → n ≤ 2 → late r ≡ false
+is-early r n e l = ap not (le-leb (kernel.numberOf (ruled r)) 2 (subst (λ m. m ≤ 2) e l))
+
 -- the number moves on after it, so it can
 pub can-move : (b : List ℕ) (r : Refusal) → Leavable b r → (n : ℕ) → n ≡ kernel.numberOf (ruled r) → 2 < n
     → (length b ≡ size) × (nextOf (view b) ≤ kernel.lastNumber)
@@ -43,6 +46,9 @@ module _ (b : List ℕ) (r : Refusal) (n : ℕ) (e : n ≡ kernel.numberOf (rule
   left-early l =
       record {
         answer = ap Refused e;
+        length-same = refl;
+        moved = λ t. absurd (false≢true (sym (is-early r n e l) ∙ t));
+        kept = λ t. refl;
         done = λ area c x t. done-stopped b area c x (ruled r) n e (t .verdict) l;
         output = λ area c x t. output-kept (verdictOn b area c x) _ (t .verdict);
       }
@@ -52,6 +58,9 @@ module _ (b : List ℕ) (r : Refusal) (n : ℕ) (e : n ≡ kernel.numberOf (rule
   left-late l b′ long m =
       record {
         answer = ap Refused e;
+        length-same = long;
+        moved = λ t. m;
+        kept = λ t. absurd (false≢true (sym t ∙ is-late r n e l));
         done = λ area c x t. done-refused b area c x (t .ready (is-late r n e l)) b′ long (ruled r) n e (t .verdict) l m;
         output = λ area c x t. output-kept (verdictOn b area c x) _ (t .verdict);
       }
