@@ -16,9 +16,6 @@ use Rattle.calls.specs.Conditions.{tested}
 pass-not-fail : (r : Refusal) → Pass ≡ Fail r → ⊥
 pass-not-fail r e = let z : _≡_ {A = ℕ} 0 1 = cc in omega arith
 
-fail-not-pass : (r : Refusal) → Fail r ≡ Pass → ⊥
-fail-not-pass r e = let z : _≡_ {A = ℕ} 0 1 = cc in omega arith
-
 same-refusal : (P : Refusal → Type 0) (r s : Refusal) → Fail r ≡ Fail s → P r → P s
 same-refusal P r s e p = subst P (let q : r ≡ s = cc in q) p
 
@@ -46,7 +43,7 @@ tested-all qs e = go (allHold qs) e
   where
     go : (t : Bool) → cond t Pass (Fail LabelForbids) ≡ Pass → t ≡ true
     go true e = refl
-    go false e = absurd (fail-not-pass LabelForbids e)
+    go false e = absurd (pass-not-fail LabelForbids (sym e))
 
 -- failed: they do not
 tested-not : (qs : List Condition) (r : Refusal) → tested qs ≡ Fail r → allHold qs ≡ false

@@ -97,7 +97,7 @@ module _ (b area : List ℕ) (c : ℕ) (x : Call) where
 -- ---- what is left after each way out
 
 -- a refusal has the value 0
-no-value : (f : Refusal) → 0 ≡ valueWith f
+pub no-value : (f : Refusal) → valueWith f ≡ 0
 no-value (by k) = refl
 
 module _ (b area : List ℕ) (c : ℕ) (x : Call) where
@@ -107,7 +107,7 @@ module _ (b area : List ℕ) (c : ℕ) (x : Call) where
   done-stopped f n i e l =
       record {
         answer = rw e i;
-        value = rw e (no-value f);
+        value = rw e (sym (no-value f));
         left = record { length-same = refl; book-kept = λ g. refl; book-left = λ g. rw (e, le-leb (numberOf f) 2 (subst (λ m. m ≤ 2) i l)); area-left = rw e };
       }
 
@@ -119,7 +119,7 @@ module _ (b area : List ℕ) (c : ℕ) (x : Call) where
     done-refused f n i e l m =
         record {
           answer = rw e i;
-          value = rw e (no-value f);
+          value = rw e (sym (no-value f));
           left =
               record {
                 length-same = long;

@@ -1,12 +1,12 @@
 -- Call 12 too has only one outcome, as the part that it hands back and as the numbers that it is found by.
 use Prim.Native.Nat.{ℕ, _<_}
-use native.Mathlib.Omega.{arith}
 use mathlib.Core.Path.{_≡_, refl, sym, ap, ap₂, _∙_}
 use mathlib.Core.List.{List}
 use lib.ListN.{getD}
 use denote.Ref.{RefT, ptr, now}
 use Rattle.rules.specs.Kernel as kernel
-use Rattle.rules.specs.Kernel.{Call, Change, Refusal, by, Verdict, refused, grant, read, answerOf, valueOf}
+use Rattle.rules.specs.Kernel.{Call, by, Verdict, refused, grant, read, answerOf, valueOf}
+use Rattle.rules.specs.Laws.Must.{refuse-no-grant}
 use Rattle.calls.specs.declared.Answer.{Answer}
 use Rattle.calls.specs.declared.Answer.the-variants.{Granted, Refused}
 use Rattle.calls.specs.declared.read.Located.{Located}
@@ -29,9 +29,6 @@ pub value-for : (x : Verdict) → valueIn (answerFor x) ≡ valueOf x
 unfolding answerFor valueOf
 value-for (refused (by k)) = refl
 value-for (grant v o h) = refl
-
-granted-not-refused : (v : ℕ) (o : List ℕ) (h : Change) (r : Refusal) → grant v o h ≡ refused r → ⊥
-granted-not-refused v o h r e = let z : _≡_ {A = ℕ} 0 1 = cc in omega arith
 
 module _ (b area : List ℕ) (c : ℕ) (x : Call) (b₁ b₂ : List ℕ) (bytes₁ : (k : ℕ) → getD b₁ k 0 < 256) (bytes₂ : (k : ℕ) → getD b₂ k 0 < 256) where
   done : (b′ : List ℕ) → Left b area c x b′ area → Done b area c x (answerFor (verdictOn b area c x)) b′ area
@@ -64,8 +61,8 @@ module _ (b area : List ℕ) (c d s k f n : ℕ) (b₁ b₂ : List ℕ) (bytes�
   unfolding answerOf
   one-place (At p m) (At q l) x y =
       (ap₂ At (x .place ∙ sym (y .place)) (x .count ∙ sym (y .count)), one-book b area c _ b₁ b₂ bytes₁ bytes₂ (x .left) (y .left))
-  one-place (At p m) (Off l) x y = absurd (granted-not-refused _ _ _ _ (sym (x .granted) ∙ y .verdict))
-  one-place (Off m) (At q l) x y = absurd (granted-not-refused _ _ _ _ (sym (y .granted) ∙ x .verdict))
+  one-place (At p m) (Off l) x y = absurd (refuse-no-grant _ _ _ _ (sym (y .verdict) ∙ x .granted))
+  one-place (Off m) (At q l) x y = absurd (refuse-no-grant _ _ _ _ (sym (x .verdict) ∙ y .granted))
   one-place (Off m) (Off l) x y = (
     ap Off (x .answered ∙ ap (λ (v : Verdict). Refused (answerOf v)) (sym (x .verdict) ∙ y .verdict) ∙ sym (y .answered)),
     one-book b area c _ b₁ b₂ bytes₁ bytes₂ (x .done .left) (y .done .left),

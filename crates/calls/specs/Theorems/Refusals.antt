@@ -7,7 +7,7 @@ use mathlib.Core.List.{List}
 use lib.ListN.{getD}
 use borrow.Author.Tests.{le-leb, lt-leb}
 use Rattle.rules.specs.Kernel as kernel
-use Rattle.rules.specs.Kernel.{Call, Refusal, by, Verdict, refused, grant, answerOf, valueOf}
+use Rattle.rules.specs.Kernel.{Call, Refusal, Verdict, refused, grant, answerOf, valueOf}
 use Rattle.rules.specs.Laws.Bools.{bool-cases}
 use Rattle.tables.specs.Layout.{view}
 use Rattle.tables.specs.Layout.Only.{view-only}
@@ -15,7 +15,7 @@ use Rattle.book.specs.Enact.{movedOn}
 use Rattle.book.specs.Test.{areasB}
 use Rattle.calls.specs.declared.Answer.{Answer}
 use Rattle.calls.specs.Outcome.{verdictOn, bookLeft, areaLeft, outputLeft, numberOf, valueIn, Done}
-use Rattle.calls.specs.Laws.Prelude.{book-long}
+use Rattle.calls.specs.Laws.Prelude.{book-long, no-value}
 
 -- a verdict whose answer is not 0 is a refusal
 record Refusing (v : Verdict) : Type 0 where
@@ -26,9 +26,6 @@ refusal : (v : Verdict) → (answerOf v ≡ 0 → ⊥) → Refusing v
 unfolding answerOf
 refusal (refused r) n = record { why = r; is = refl }
 refusal (grant v o h) n = absurd (n refl)
-
-no-value : (f : Refusal) → kernel.valueWith f ≡ 0
-no-value (by k) = refl
 
 module _ (b area : List ℕ) (c : ℕ) (x : Call) (r : Answer) (b′ area′ : List ℕ) (d : Done b area c x r b′ area′) (not-granted : numberOf r ≡ 0 → ⊥) where
   refusing : Refusing (verdictOn b area c x)
