@@ -1,15 +1,15 @@
 -- Calls 4 to 7: what they share. RULES 8.4: "7 unless T may write D, T flows to the new label, that flows to the new clearance if there is one, and the last of these flows to
 -- T's clearance."
-use Prim.Native.Nat.{ℕ, _-_, _/_, _%_, _^_}
+use Prim.Native.Nat.{ℕ}
 use mathlib.Core.Bool.{true, not}
 use mathlib.Core.Path.{_≡_}
 use mathlib.Core.List.{List, [], _∷_}
-use lib.Dec.{eqb, leb}
+use lib.Dec.{leb}
 use Rattle.labels.specs.declared.Label.{Label}
 use Rattle.rules.specs.Kernel.{Obj, Condition, Call, goodArguments, kindCode, flow, writing, grant, create}
 use Rattle.tables.specs.Layout.{View, view}
 use Rattle.book.specs.declared.Found.the-variants.{At}
-use Rattle.book.specs.Book.{nextOf, maskOf, labelOf}
+use Rattle.book.specs.Book.{nextOf, labelOf}
 use Rattle.book.specs.Find.{containerRow}
 use Rattle.book.specs.Units.{spareAt}
 use Rattle.calls.specs.declared.Refusal.the-variants.{MaskForbids, NoSpare}
@@ -19,6 +19,7 @@ use Rattle.calls.specs.declared.Judged.the-variants.{Go}
 use Rattle.calls.specs.Outcome.{verdictOn}
 use Rattle.calls.specs.Conditions.{tested}
 use Rattle.calls.specs.Tested.{test, passing}
+use Rattle.calls.specs.Masks.{forbidsAt}
 
 -- ---- the label conditions beside writing D, of a thread with label m and clearance k
 
@@ -32,18 +33,18 @@ clearedConditions m k l n = flow m l ∷ flow l n ∷ flow n k ∷ []
 
 -- ---- judging
 
--- A new object x and its conditions, as the code knows them: the place of its kind's bit in a mask, its quota, and what the conditions come to.
-pub record Asked (t x : Obj) (more : List Condition) (place quota : ℕ) (allowed : Tested) : Type 0 where
-  pub bit : kindCode (x .kind) - 1 ≡ place
+-- A new object x and its conditions, as the code knows them: the code of its kind, its quota, and what the conditions come to.
+pub record Asked (t x : Obj) (more : List Condition) (code quota : ℕ) (allowed : Tested) : Type 0 where
+  pub of-kind : kindCode (x .kind) ≡ code
   pub units : x .quota ≡ quota
   pub conditions : tested (flow (t .label) (x .label) ∷ more) ≡ allowed
 
 -- What is answered of it, of the thread at row t and the container at row k, from 7 on.
 abbrev pub admitted : View → ℕ → ℕ → ℕ → ℕ → Tested → Judged
-admitted v t k place quota allowed =
+admitted v t k code quota allowed =
     passing (tested (writing (labelOf v t) (labelOf v k)))
     (passing allowed
-    (test (not (eqb (maskOf v k / 2 ^ place % 2) 1)) MaskForbids
+    (test (not (forbidsAt v k code)) MaskForbids
     (test (leb quota (spareAt v k)) NoSpare
     (Go k 0))))
 

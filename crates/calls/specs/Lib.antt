@@ -10,6 +10,7 @@ pub mod SetLabel
 pub mod SetClearance
 pub mod FixQuota
 pub mod CreateCategory
+pub mod Masks
 pub mod Creating
 pub mod CreateSegment
 pub mod CreateContainer

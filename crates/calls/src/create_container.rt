@@ -37,9 +37,6 @@ const MASK_MOST: u64 = MAX_MASK as u64;
 // RULES 3.7: ".. 0 stands for a default: 16 for a container, 5 for a segment."
 const DEFAULT_QUOTA: u64 = 16;
 
-// The place of a container's bit in a mask.
-const PLACE: u64 = CONTAINER as u64 - 1;
-
 fn good_arguments(next: u64, label: &[u8], description: &[u8], mask: u64, quota: u64) -> bool
     ensures { λ r. ⌜ r ≡ (goodLabel next false (now (label .entry)) && (goodText (now (description .entry)) && (leb mask maxMask && leb quota maxQuota))) ⌝ }
 {
@@ -82,7 +79,7 @@ fn judge(
         b,
         t,
         container,
-        PLACE,
+        CONTAINER,
         or_default(quota, DEFAULT_QUOTA),
         allowed,
     )

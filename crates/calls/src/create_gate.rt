@@ -26,9 +26,6 @@ use labels::bytes::from_bytes;
 // RULES 8.6: "As 8.4, with quota 1."
 const QUOTA: u64 = 1;
 
-// The place of a gate's bit in a mask.
-const PLACE: u64 = GATE as u64 - 1;
-
 fn good_arguments(
     next: u64,
     label: &[u8],
@@ -75,7 +72,7 @@ fn judge(
         return Judged::No(Refusal::NoEntry);
     };
     let allowed = cleared_allowed(b, t, label, clearance);
-    admit(b, t, container, PLACE, QUOTA, allowed)
+    admit(b, t, container, GATE, QUOTA, allowed)
 }
 
 fn new_row(label: Label, clearance: Label, number: u64) -> NewRow

@@ -31,9 +31,6 @@ use tables::TEXT_SIZE;
 // RULES 3.7: ".. 0 stands for a default: 16 for a container, 5 for a segment."
 const DEFAULT_QUOTA: u64 = 5;
 
-// The place of a segment's bit in a mask.
-const PLACE: u64 = SEGMENT as u64 - 1;
-
 fn good_arguments(next: u64, label: &[u8], description: &[u8], quota: u64) -> bool
     ensures { λ r. ⌜ r ≡ (goodLabel next false (now (label .entry)) && (goodText (now (description .entry)) && leb quota maxQuota)) ⌝ }
 {
@@ -72,7 +69,7 @@ fn judge(
         b,
         t,
         container,
-        PLACE,
+        SEGMENT,
         or_default(quota, DEFAULT_QUOTA),
         allowed,
     )

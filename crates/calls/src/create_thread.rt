@@ -27,9 +27,6 @@ use tables::TEXT_SIZE;
 // RULES 8.7: "As 8.4, with quota 1."
 const QUOTA: u64 = 1;
 
-// The place of a thread's bit in a mask.
-const PLACE: u64 = THREAD as u64 - 1;
-
 fn good_arguments(next: u64, label: &[u8], clearance: &[u8], description: &[u8]) -> bool
     ensures { λ r. ⌜ r ≡ (goodLabel next true (now (label .entry)) && (goodLabel next false (now (clearance .entry)) && goodText (now (description .entry)))) ⌝ }
 {
@@ -64,7 +61,7 @@ fn judge(
         return Judged::No(Refusal::NoEntry);
     };
     let allowed = cleared_allowed(b, t, label, clearance);
-    admit(b, t, container, PLACE, QUOTA, allowed)
+    admit(b, t, container, THREAD, QUOTA, allowed)
 }
 
 fn new_row(label: Label, clearance: Label) -> NewRow

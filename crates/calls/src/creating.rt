@@ -1,7 +1,6 @@
 // What calls 4 to 7 share: whether a thread may create an object in a container, and the making of it.
 ghost use mathlib.Core.Path.{_≡_};
-ghost use Prim.Native.Nat.{_<_, _/_, _%_, _^_};
-ghost use lib.Dec.{eqb};
+ghost use Prim.Native.Nat.{_≤_, _<_};
 ghost use lib.ListN.{length};
 ghost use Rattle.labels.specs.Core as core;
 ghost use Rattle.rules.specs.Kernel.{orDefault};
@@ -16,9 +15,9 @@ use super::Refusal;
 use super::Tested;
 use super::conditions::flow;
 use super::conditions::writing;
+use super::masks::forbids;
 use book::find::clearance_of;
 use book::find::label_of;
-use book::find::mask_of;
 use book::find::next_of;
 use book::make::NewRow;
 use book::make::create;
@@ -36,14 +35,6 @@ pub fn or_default(quota: u64, default: u64) -> u64
         return default;
     }
     quota
-}
-
-// Whether the mask's bit at `place` is set.
-fn bit_set(mask: u64, place: u64) -> bool
-    requires { ⌜ place < 64 ⌝ }
-    ensures { λ r. ⌜ r ≡ eqb (mask / 2 ^ place % 2) 1 ⌝ }
-{
-    (mask >> place) % 2 == 1
 }
 
 // The label conditions of a new object without a clearance, beside that of writing the container: the thread at row t flows to the label, and that to
@@ -79,11 +70,11 @@ pub fn cleared_allowed(b: &[u8], t: usize, label: &[u8], clearance: &[u8]) -> Te
     flow(most, clearance_of(b, t))
 }
 
-// Whether the thread at row t may create an object in the container at row c, by the tests from 7 on: `place` is the bit of the object's kind, and
+// Whether the thread at row t may create an object in the container at row c, by the tests from 7 on: `code` is that of the object's kind, and
 // `allowed` says what its own label conditions came to. Granted with the container's row.
-pub fn admit(b: &[u8], t: usize, c: usize, place: u64, quota: u64, allowed: Tested) -> Judged
-    requires { ⌜ (length (now b) ≡ size) × Sound (view (now b)) × (t < rowCount) × Live (view (now b)) c × (place < 64) ⌝ }
-    ensures { λ r. ⌜ r ≡ admitted (view (now (b .entry))) t c place quota allowed ⌝ }
+pub fn admit(b: &[u8], t: usize, c: usize, code: u8, quota: u64, allowed: Tested) -> Judged
+    requires { ⌜ (length (now b) ≡ size) × Sound (view (now b)) × (t < rowCount) × Live (view (now b)) c × (1 ≤ code) × (code ≤ 64) ⌝ }
+    ensures { λ r. ⌜ r ≡ admitted (view (now (b .entry))) t c code quota allowed ⌝ }
 {
     match writing(label_of(b, t), label_of(b, c)) {
         Tested::Pass => {}
@@ -93,7 +84,7 @@ pub fn admit(b: &[u8], t: usize, c: usize, place: u64, quota: u64, allowed: Test
         Tested::Pass => {}
         Tested::Fail(r) => return Judged::No(r),
     }
-    if bit_set(mask_of(b, c), place) {
+    if forbids(b, c, code) {
         return Judged::No(Refusal::MaskForbids);
     }
     if spare_of(b, c) < quota {

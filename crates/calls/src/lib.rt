@@ -54,6 +54,7 @@ pub mod set_clearance; // set_clearance.rt: call 3
 pub mod fix_quota; // fix_quota.rt: call 10
 pub mod create_category; // create_category.rt: call 1
 pub mod start; // start.rt: Start
+pub mod masks; // masks.rt: which kinds a container forbids
 pub mod creating; // creating.rt: what calls 4 to 7 share
 pub mod create_segment; // create_segment.rt: call 5
 pub mod link_segment; // link_segment.rt: call 9

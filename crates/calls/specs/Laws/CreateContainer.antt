@@ -1,5 +1,5 @@
 -- Call 4: the verdict at each way out, and what the making leaves.
-use Prim.Native.Nat.{ℕ, _-_, _<_, _≤_}
+use Prim.Native.Nat.{ℕ, _<_, _≤_}
 use native.Mathlib.Omega.{arith}
 use mathlib.Core.Bool.{true, false, _&&_}
 use mathlib.Core.Path.{_≡_, refl, sym, ap, ap₂, subst, _∙_}
@@ -36,7 +36,8 @@ use Rattle.calls.specs.CreateContainer.{newContainer, containerRowOf, Co
 use Rattle.calls.specs.Laws.Arguments.{good-long, good-default, good-text-long}
 use Rattle.calls.specs.Laws.Begun.{caller-four, caller-label, caller-clearance}
 use Rattle.calls.specs.Laws.Leave.{told}
-use Rattle.calls.specs.Laws.Creating.{create-five, create-judged, default-most, mask-at}
+use Rattle.calls.specs.Laws.Creating.{create-five, create-judged, default-most}
+use Rattle.calls.specs.Laws.Lookup.{mask-at}
 use Rattle.calls.specs.Laws.Prelude.{book-sound}
 
 module _ (b area l s : List ℕ) (c t d m q : ℕ) (by : Caller b area c t) where
@@ -62,13 +63,13 @@ module _ (b area l s : List ℕ) (c t d m q : ℕ) (by : Caller b area c t) wher
     -- one that is, at row `at`: what is shared decides
     pub container-judged : (at : ℕ) → openContainer (view b) t d ≡ At at
         → (allowed : Tested) → allowed ≡ tested (plainConditions (labelOf (view b) t) (clearanceOf (view b) t) (core.labelOf l))
-        → (units : ℕ) → units ≡ orDefault q containerDefault → (r : Judged) → r ≡ admitted (view b) t at (containerCode - 1) units allowed → ContainerJudged b area c d l s m q r
+        → (units : ℕ) → units ≡ orDefault q containerDefault → (r : Judged) → r ≡ admitted (view b) t at containerCode units allowed → ContainerJudged b area c d l s m q r
     unfolding judge containerOf kindCode
     container-judged at o allowed e units f r h =
         create-judged b area c t by (createContainer d l s m q) d (newContainer (worldOf (view b) area) d l s m q)
-        (flow (core.labelOf l) ((worldOf (view b) area .obj c) .clearance) ∷ []) arguments refl at o (containerCode - 1) units allowed
+        (flow (core.labelOf l) ((worldOf (view b) area .obj c) .clearance) ∷ []) arguments refl at o containerCode units allowed
         (record {
-          bit = refl;
+          of-kind = refl;
           units = sym f;
           conditions = ap₂ (λ (u k : Label). tested (plainConditions u k (core.labelOf l))) (caller-label b area c t by) (caller-clearance b area c t by) ∙ sym e;
         })

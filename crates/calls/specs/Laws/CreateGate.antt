@@ -1,5 +1,5 @@
 -- Call 6: the verdict at each way out, and what the making leaves.
-use Prim.Native.Nat.{ℕ, _-_}
+use Prim.Native.Nat.{ℕ}
 use mathlib.Core.Bool.{true, false, _&&_}
 use mathlib.Core.Path.{_≡_, refl, sym, ap, ap₂, subst, _∙_}
 use mathlib.Core.List.{List, [], _∷_}
@@ -53,13 +53,13 @@ module _ (b area l k x s : List ℕ) (c t d i : ℕ) (by : Caller b area c t) wh
     -- one that is, at row `at`: what is shared decides
     pub gate-judged : (at : ℕ) → openContainer (view b) t d ≡ At at
         → (allowed : Tested) → allowed ≡ tested (clearedConditions (labelOf (view b) t) (clearanceOf (view b) t) (core.labelOf l) (core.labelOf k))
-        → (r : Judged) → r ≡ admitted (view b) t at (gateCode - 1) 1 allowed → GateJudged b area c d l k i x s r
+        → (r : Judged) → r ≡ admitted (view b) t at gateCode 1 allowed → GateJudged b area c d l k i x s r
     unfolding judge gateOf kindCode
     gate-judged at o allowed e r h =
         create-judged b area c t by (createGate d l k i x s) d (newGate l k i x s)
-        (flow (core.labelOf l) (core.labelOf k) ∷ flow (core.labelOf k) ((worldOf (view b) area .obj c) .clearance) ∷ []) arguments refl at o (gateCode - 1) 1 allowed
+        (flow (core.labelOf l) (core.labelOf k) ∷ flow (core.labelOf k) ((worldOf (view b) area .obj c) .clearance) ∷ []) arguments refl at o gateCode 1 allowed
         (record {
-          bit = refl;
+          of-kind = refl;
           units = refl;
           conditions = ap₂ (λ (u w : Label). tested (clearedConditions u w (core.labelOf l) (core.labelOf k))) (caller-label b area c t by) (caller-clearance b area c t by) ∙ sym e;
         })

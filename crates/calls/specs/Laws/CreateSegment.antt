@@ -1,5 +1,5 @@
 -- Call 5: the verdict at each way out, and what the making leaves.
-use Prim.Native.Nat.{ℕ, _-_, _<_}
+use Prim.Native.Nat.{ℕ, _<_}
 use native.Mathlib.Omega.{arith}
 use mathlib.Core.Bool.{true, false, _&&_}
 use mathlib.Core.Path.{_≡_, refl, sym, ap, ap₂, subst, _∙_}
@@ -55,13 +55,13 @@ module _ (b area l s : List ℕ) (c t d q : ℕ) (by : Caller b area c t) where
     -- one that is, at row `at`: what is shared decides
     pub segment-judged : (at : ℕ) → openContainer (view b) t d ≡ At at
         → (allowed : Tested) → allowed ≡ tested (plainConditions (labelOf (view b) t) (clearanceOf (view b) t) (core.labelOf l))
-        → (units : ℕ) → units ≡ orDefault q segmentDefault → (r : Judged) → r ≡ admitted (view b) t at (segmentCode - 1) units allowed → SegmentJudged b area c d l s q r
+        → (units : ℕ) → units ≡ orDefault q segmentDefault → (r : Judged) → r ≡ admitted (view b) t at segmentCode units allowed → SegmentJudged b area c d l s q r
     unfolding judge segmentOf kindCode
     segment-judged at o allowed e units f r h =
         create-judged b area c t by (createSegment d l s q) d (newSegment l s q)
-        (flow (core.labelOf l) ((worldOf (view b) area .obj c) .clearance) ∷ []) arguments refl at o (segmentCode - 1) units allowed
+        (flow (core.labelOf l) ((worldOf (view b) area .obj c) .clearance) ∷ []) arguments refl at o segmentCode units allowed
         (record {
-          bit = refl;
+          of-kind = refl;
           units = sym f;
           conditions = ap₂ (λ (m k : Label). tested (plainConditions m k (core.labelOf l))) (caller-label b area c t by) (caller-clearance b area c t by) ∙ sym e;
         })

@@ -1,5 +1,5 @@
 -- Call 7: the verdict at each way out, and what the making leaves.
-use Prim.Native.Nat.{ℕ, _-_}
+use Prim.Native.Nat.{ℕ}
 use mathlib.Core.Bool.{true, false, _&&_}
 use mathlib.Core.Path.{_≡_, refl, sym, ap, ap₂, subst, _∙_}
 use mathlib.Core.List.{List, [], _∷_}
@@ -52,13 +52,13 @@ module _ (b area l k s : List ℕ) (c t d : ℕ) (by : Caller b area c t) where
     -- one that is, at row `at`: what is shared decides
     pub thread-judged : (at : ℕ) → openContainer (view b) t d ≡ At at
         → (allowed : Tested) → allowed ≡ tested (clearedConditions (labelOf (view b) t) (clearanceOf (view b) t) (core.labelOf l) (core.labelOf k))
-        → (r : Judged) → r ≡ admitted (view b) t at (threadCode - 1) 1 allowed → ThreadJudged b area c d l k s r
+        → (r : Judged) → r ≡ admitted (view b) t at threadCode 1 allowed → ThreadJudged b area c d l k s r
     unfolding judge threadOf kindCode
     thread-judged at o allowed e r h =
         create-judged b area c t by (createThread d l k s) d (newThread l k s)
-        (flow (core.labelOf l) (core.labelOf k) ∷ flow (core.labelOf k) ((worldOf (view b) area .obj c) .clearance) ∷ []) arguments refl at o (threadCode - 1) 1 allowed
+        (flow (core.labelOf l) (core.labelOf k) ∷ flow (core.labelOf k) ((worldOf (view b) area .obj c) .clearance) ∷ []) arguments refl at o threadCode 1 allowed
         (record {
-          bit = refl;
+          of-kind = refl;
           units = refl;
           conditions = ap₂ (λ (u w : Label). tested (clearedConditions u w (core.labelOf l) (core.labelOf k))) (caller-label b area c t by) (caller-clearance b area c t by) ∙ sym e;
         })

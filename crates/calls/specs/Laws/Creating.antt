@@ -1,7 +1,7 @@
 -- Calls 4 to 7: what they share, and the verdict by it.
-use Prim.Native.Nat.{ℕ, _/_, _%_, _^_, _≤_}
+use Prim.Native.Nat.{ℕ, _≤_}
 use mathlib.Core.Bool.{Bool, true, false, not, cond, _&&_}
-use mathlib.Core.Path.{_≡_, refl, sym, ap, ap₂, subst, _∙_}
+use mathlib.Core.Path.{_≡_, refl, sym, ap, subst, _∙_}
 use mathlib.Core.List.{List, [], _∷_, _++_}
 use lib.ListN.{length}
 use lib.Dec.{eqb, leb}
@@ -11,15 +11,14 @@ use Rattle.labels.specs.Core.Formed.{and-l, and-r}
 use Rattle.rules.specs.Kernel.{containerCode, Obj, grant, must, mustHold, make, opens, writing, flow, forbids, fits, Condition, Call, judge, goodArguments, goodLabel, create, orDefault}
 use Rattle.tables.specs.Layout.{view}
 use Rattle.book.specs.declared.Found.the-variants.{At, Nothing}
-use Rattle.book.specs.Book.{nextOf, maskOf, labelOf, worldOf}
+use Rattle.book.specs.Book.{nextOf, labelOf, worldOf}
 use Rattle.book.specs.declared.make.NewRow.{NewRow}
 use Rattle.book.specs.Enact.{enactArea}
-use Rattle.book.specs.Find.{containerRow}
 use Rattle.book.specs.Make.{Handed, Creating, createdIn}
 use Rattle.book.specs.Units.{spareAt}
-use Rattle.book.specs.Laws.Find.{kind-is, kind-row, container-low, container-found}
+use Rattle.book.specs.Laws.Find.{kind-is, container-low}
 use Rattle.book.specs.Laws.Places.{create-enacts}
-use Rattle.book.specs.Laws.Tie.{object-mask, world-next}
+use Rattle.book.specs.Laws.Tie.{world-next}
 use Rattle.calls.specs.declared.Answer.the-variants.{Granted}
 use Rattle.calls.specs.declared.Refusal.the-variants.{NoEntry, MaskForbids, NoSpare}
 use Rattle.calls.specs.declared.Tested.{Tested}
@@ -28,10 +27,11 @@ use Rattle.calls.specs.declared.Judged.the-variants.{No}
 use Rattle.calls.specs.Outcome.{verdictOn, Means, Ready, Done}
 use Rattle.calls.specs.Begun.{Caller}
 use Rattle.calls.specs.Lookup.{openContainer}
+use Rattle.calls.specs.Masks.{forbidsAt}
 use Rattle.calls.specs.Creating.{Asked, admitted, ToMake}
 use Rattle.calls.specs.Laws.Arguments.{good-long}
 use Rattle.calls.specs.Laws.Begun.{caller-judged, caller-label}
-use Rattle.calls.specs.Laws.Lookup.{not-open, is-open, holder-row, holder-label, holder-fits}
+use Rattle.calls.specs.Laws.Lookup.{not-open, is-open, holder-row, holder-label, holder-forbids, holder-fits}
 use Rattle.calls.specs.Laws.Prelude.{must-passed, must-failed, book-long, done-granted}
 use Rattle.calls.specs.Laws.Leave.{told}
 use Rattle.calls.specs.Laws.Tested.{means-tested, means-both}
@@ -71,10 +71,6 @@ module _ (q d : ℕ) where
 
 -- ---- the verdict
 
--- the mask of the container is its row's
-pub mask-at : (b area : List ℕ) (d i : ℕ) → containerRow (view b) d ≡ At i → (worldOf (view b) area .obj d) .mask ≡ maskOf (view b) i
-mask-at b area d i e = ap (λ (o : Obj). o .mask) (container-found (view b) area d i e .1) ∙ object-mask (view b) area i (kind-row containerCode (view b) d i e .2)
-
 module _ (b area : List ℕ) (c t : ℕ) (by : Caller b area c t) (call : Call) (d : ℕ) (x : Obj) (more : List Condition)
     (good : goodArguments (nextOf (view b)) call ≡ true)
     (made : judge (worldOf (view b) area) (worldOf (view b) area .obj c) c call ≡ make (worldOf (view b) area) (worldOf (view b) area .obj c) d x more) where
@@ -91,11 +87,10 @@ module _ (b area : List ℕ) (c t : ℕ) (by : Caller b area c t) (call : Call) 
   pub create-five : openContainer (view b) t d ≡ Nothing → Means b area (verdictOn b area c call) (ToMake b area c call d x) (No NoEntry)
   create-five e = told (chain ∙ must-failed _ 5 _ (not-open b area c t d by e)) (by .ready)
 
-  module _ (k : ℕ) (e : openContainer (view b) t d ≡ At k) (place quota : ℕ) (allowed : Tested)
-      (a : Asked (worldOf (view b) area .obj c) x more place quota allowed) where
-    forbidden : forbids ((worldOf (view b) area .obj d) .mask) (x .kind) ≡ eqb (maskOf (view b) k / 2 ^ place % 2) 1
-    unfolding forbids
-    forbidden = ap₂ (λ (m n : ℕ). eqb (m / 2 ^ n % 2) 1) (mask-at b area d k (holder-row b area c t d by k e)) (a .bit)
+  module _ (k : ℕ) (e : openContainer (view b) t d ≡ At k) (code quota : ℕ) (allowed : Tested)
+      (a : Asked (worldOf (view b) area .obj c) x more code quota allowed) where
+    forbidden : forbids ((worldOf (view b) area .obj d) .mask) (x .kind) ≡ forbidsAt (view b) k code
+    forbidden = holder-forbids b area c t d by k e (x .kind) ∙ ap (forbidsAt (view b) k) (a .of-kind)
 
     fitting : fits (worldOf (view b) area) d (x .quota) ≡ leb quota (spareAt (view b) k)
     fitting = holder-fits b area c t d by k e (x .quota) ∙ ap (λ (n : ℕ). leb n (spareAt (view b) k)) (a .units)
@@ -103,7 +98,7 @@ module _ (b area : List ℕ) (c t : ℕ) (by : Caller b area c t) (call : Call) 
     -- the tests from 7 on, of the rows
     from-seven : verdictOn b area c call
         ≡ mustHold (writing (labelOf (view b) t) (labelOf (view b) k) ++ (flow ((worldOf (view b) area .obj c) .label) (x .label) ∷ more))
-        (must (not (eqb (maskOf (view b) k / 2 ^ place % 2) 1)) 8
+        (must (not (forbidsAt (view b) k code)) 8
         (must (leb quota (spareAt (view b) k)) 13
         (grant (nextOf (view b)) [] (create d x))))
     from-seven =
@@ -113,7 +108,7 @@ module _ (b area : List ℕ) (c t : ℕ) (by : Caller b area c t) (call : Call) 
         (must (not (forbidden i)) 8 (must (fitting i) 13 (grant (world-next (view b) area i) [] (create d x)))))
 
     -- what is answered of them is what the call comes to
-    pub create-judged : (r : Judged) → r ≡ admitted (view b) t k place quota allowed → Means b area (verdictOn b area c call) (ToMake b area c call d x) r
+    pub create-judged : (r : Judged) → r ≡ admitted (view b) t k code quota allowed → Means b area (verdictOn b area c call) (ToMake b area c call d x) r
     create-judged r f =
         let go = ToMake b area c call d x in
         let v = verdictOn b area c call in

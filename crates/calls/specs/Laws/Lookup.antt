@@ -1,26 +1,27 @@
 -- Lookups: as the code makes them, what is found by them, and what the rules' tests of answer 5 are in the book.
-use Prim.Native.Nat.{ℕ}
+use Prim.Native.Nat.{ℕ, _-_, _/_, _%_, _^_}
 use native.Mathlib.Omega.{arith}
 use mathlib.Core.Bool.{Bool, true, false, cond}
 use mathlib.Core.Path.{_≡_, sym, ap, subst, _∙_}
 use mathlib.Core.List.{List}
-use lib.Dec.{leb}
+use lib.Dec.{eqb, leb}
 use Rattle.labels.specs.Core.{mayRead}
-use Rattle.rules.specs.Kernel.{containerCode, Obj, opens, fits, spareOf}
+use Rattle.rules.specs.Kernel.{containerCode, Kind, kindCode, Obj, opens, forbids, fits, spareOf}
 use Rattle.rules.specs.Laws.Bools.{bool-cases}
 use Rattle.tables.specs.Layout.{View, view}
 use Rattle.book.specs.declared.Found.the-variants.{At, Nothing}
 use Rattle.book.specs.declared.find.Entry.the-variants as place
-use Rattle.book.specs.Book.{idOf, labelOf, rowOf, worldOf}
+use Rattle.book.specs.Book.{idOf, maskOf, labelOf, rowOf, worldOf}
 use Rattle.book.specs.Find.{containerRow, entryPlace}
 use Rattle.book.specs.Sound.{Sound, Live}
 use Rattle.book.specs.Units.{spareAt}
 use Rattle.book.specs.Laws.First.{no-place, same-place, on-at, on-nothing, found-cases}
 use Rattle.book.specs.Laws.Find.{kind-is, kind-row, container-found, opens-at, opens-none, entry-parts}
-use Rattle.book.specs.Laws.Tie.{object-label}
+use Rattle.book.specs.Laws.Tie.{object-label, object-mask}
 use Rattle.book.specs.Laws.Units.{spare-at}
 use Rattle.calls.specs.Begun.{Caller}
 use Rattle.calls.specs.Lookup.{openContainer, openEntry}
+use Rattle.calls.specs.Masks.{forbidsAt}
 use Rattle.calls.specs.Laws.Begun.{caller-label, sound-by-caller}
 
 -- ---- a container
@@ -93,6 +94,10 @@ unfolding fits
 fits-at b area o r s a i n =
     ap (leb n) (ap (spareOf (worldOf (view b) area)) (sym i) ∙ spare-at (view b) s r a area)
 
+-- the mask of the container is its row's
+pub mask-at : (b area : List ℕ) (d i : ℕ) → containerRow (view b) d ≡ At i → (worldOf (view b) area .obj d) .mask ≡ maskOf (view b) i
+mask-at b area d i e = ap (λ (o : Obj). o .mask) (container-found (view b) area d i e .1) ∙ object-mask (view b) area i (kind-row containerCode (view b) d i e .2)
+
 module _ (b area : List ℕ) (c t d : ℕ) (by : Caller b area c t) where
   read-by : (k : ℕ) → containerRow (view b) d ≡ At k → opens (worldOf (view b) area) (worldOf (view b) area .obj c) d ≡ mayRead (labelOf (view b) t) (labelOf (view b) k)
   read-by k e =
@@ -126,6 +131,11 @@ module _ (b area : List ℕ) (c t d : ℕ) (by : Caller b area c t) where
 
     pub holder-label : (worldOf (view b) area .obj d) .label ≡ labelOf (view b) k
     holder-label = ap (λ (x : Obj). x .label) (container-found (view b) area d k holder-row .1) ∙ object-label (view b) area k
+
+    -- its mask forbids what the row's does
+    pub holder-forbids : (x : Kind) → forbids ((worldOf (view b) area .obj d) .mask) x ≡ forbidsAt (view b) k (kindCode x)
+    unfolding forbids
+    holder-forbids x = ap (λ (m : ℕ). eqb (m / 2 ^ (kindCode x - 1) % 2) 1) (mask-at b area d k holder-row)
 
     pub holder-fits : (n : ℕ) → fits (worldOf (view b) area) d n ≡ leb n (spareAt (view b) k)
     holder-fits = fits-at b area d k (sound-by-caller b area c t by) holder-there holder-named

@@ -57,7 +57,7 @@ admit-requires c κs =
     let by = subst (BegunAs _ _ _) (up8 .before .t .given .1)
     (up8 .before .before .before .begin .ensures) in
     let there = holder-there _ _ _ _ _ by _ (sym (c .before .before .before .before .open-container .ensures) ∙ c .before .before .container .given .1) in
-    (book-long _ _ (by .ready .areas), sound-by-caller _ _ _ _ by, caller-low _ _ _ _ by, there, omega arith)
+    (book-long _ _ (by .ready .areas), sound-by-caller _ _ _ _ by, caller-low _ _ _ _ by, there, omega arith, omega arith)
 
 returns-4 : tie.Need-returns-4
 returns-4 c =

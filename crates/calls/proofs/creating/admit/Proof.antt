@@ -1,7 +1,6 @@
-use Prim.Native.Nat.{ℕ, _/_, _%_, _^_}
 use mathlib.Core.Bool.{not}
 use mathlib.Core.Path.{refl, sym, ap, ap₂, _∙_}
-use lib.Dec.{eqb, leb}
+use lib.Dec.{leb}
 use borrow.Author.Tests.{le-leb, lt-leb}
 use Rattle.labels.specs.declared.Label.{Label}
 use Rattle.rules.specs.Kernel.{writing}
@@ -27,37 +26,34 @@ returns-2 c =
 returns-3 : tie.Need-returns-3
 returns-3 c =
     let up8 = c .before .before .before .before .before .before .before .before in
-    let w = ap₂ (λ (x y : Label). tested (writing x y)) (sym (up8 .before .label-of .ensures)) (sym (up8 .label-of2 .ensures)) ∙ sym
-    (c .before .before .before .before .before .before .before .writing .ensures) in
-    let p = up8 .before .before .before .args .place in
-    let m = ap (λ (n : ℕ). eqb (n / 2 ^ p % 2) 1) (sym (c .before .before .mask-of .ensures)) ∙ sym (c .before .bit-set .ensures) in
-    labels-passed _ _ _ (w ∙ c .before .before .before .before .before .enum-told .given .1)
-    (labels-passed _ _ _ (c .before .before .before .enum-told2 .given .1)
+    let w = ap₂ (λ (x y : Label). tested (writing x y)) (sym (up8 .label-of .ensures)) (sym (c .before .before .before .before .before .before .before .label-of2 .ensures)) ∙ sym
+    (c .before .before .before .before .before .before .writing .ensures) in
+    let m = sym (c .before .forbids .ensures) in
+    labels-passed _ _ _ (w ∙ c .before .before .before .before .enum-told .given .1)
+    (labels-passed _ _ _ (c .before .before .enum-told2 .given .1)
     (test-failed _ _ _ (ap not (m ∙ c .if1 .taken))))
 
 returns-4 : tie.Need-returns-4
 returns-4 c =
     let up8 = c .before .before .before .before .before .before .before .before in
-    let w = ap₂ (λ (x y : Label). tested (writing x y)) (sym (up8 .before .before .before .label-of .ensures)) (sym (up8 .before .before .label-of2 .ensures)) ∙ sym
-    (up8 .before .writing .ensures) in
-    let p = up8 .before .before .before .before .before .args .place in
-    let m = ap (λ (n : ℕ). eqb (n / 2 ^ p % 2) 1) (sym (c .before .before .before .before .mask-of .ensures)) ∙ sym (c .before .before .before .bit-set .ensures) in
-    let q = up8 .before .before .before .before .before .args .quota in
-    labels-passed _ _ _ (w ∙ c .before .before .before .before .before .before .before .enum-told .given .1)
-    (labels-passed _ _ _ (c .before .before .before .before .before .enum-told2 .given .1)
+    let w = ap₂ (λ (x y : Label). tested (writing x y)) (sym (up8 .before .before .label-of .ensures)) (sym (up8 .before .label-of2 .ensures)) ∙ sym
+    (up8 .writing .ensures) in
+    let m = sym (c .before .before .before .forbids .ensures) in
+    let q = up8 .before .before .before .before .args .quota in
+    labels-passed _ _ _ (w ∙ c .before .before .before .before .before .before .enum-told .given .1)
+    (labels-passed _ _ _ (c .before .before .before .before .enum-told2 .given .1)
     (test-passed _ _ _ _ (ap not (m ∙ c .before .before .if1 .left))
     (test-failed _ _ _ (ap (leb q) (sym (c .before .spare-of .ensures)) ∙ lt-leb q (c .before .spare-of .result) (c .if2 .taken)))))
 
 returns-5 : tie.Need-returns-5
 returns-5 c =
     let up8 = c .before .before .before .before .before .before .before .before in
-    let w = ap₂ (λ (x y : Label). tested (writing x y)) (sym (up8 .before .before .before .label-of .ensures)) (sym (up8 .before .before .label-of2 .ensures)) ∙ sym
-    (up8 .before .writing .ensures) in
-    let p = up8 .before .before .before .before .before .args .place in
-    let m = ap (λ (n : ℕ). eqb (n / 2 ^ p % 2) 1) (sym (c .before .before .before .before .mask-of .ensures)) ∙ sym (c .before .before .before .bit-set .ensures) in
-    let q = up8 .before .before .before .before .before .args .quota in
-    labels-passed _ _ _ (w ∙ c .before .before .before .before .before .before .before .enum-told .given .1)
-    (labels-passed _ _ _ (c .before .before .before .before .before .enum-told2 .given .1)
+    let w = ap₂ (λ (x y : Label). tested (writing x y)) (sym (up8 .before .before .label-of .ensures)) (sym (up8 .before .label-of2 .ensures)) ∙ sym
+    (up8 .writing .ensures) in
+    let m = sym (c .before .before .before .forbids .ensures) in
+    let q = up8 .before .before .before .before .args .quota in
+    labels-passed _ _ _ (w ∙ c .before .before .before .before .before .before .enum-told .given .1)
+    (labels-passed _ _ _ (c .before .before .before .before .enum-told2 .given .1)
     (test-passed _ _ _ _ (ap not (m ∙ c .before .before .if1 .left))
     (test-passed _ _ _ _ (ap (leb q) (sym (c .before .spare-of .ensures)) ∙ le-leb q (c .before .spare-of .result) (c .if2 .left)) refl)))
 
@@ -74,7 +70,6 @@ admit-spec =
     (λ c. search needs)
     (λ c. search needs)
     returns-2
-    (λ c κs. search needs)
     (λ c κs. search needs)
     returns-3
     (λ c κs. search needs)
