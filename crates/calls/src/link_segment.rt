@@ -1,10 +1,12 @@
 // Call 9: a segment linked in one container more.
 ghost use mathlib.Core.Path.{_≡_};
-ghost use mathlib.Core.List.{[], _∷_, _++_};
-ghost use Rattle.calls.specs.Outcome.{Done};
-ghost use Rattle.calls.specs.LinkSegment.{LinkJudged};
+ghost use Prim.Native.Nat.{_<_};
+ghost use lib.ListN.{length};
+ghost use Rattle.tables.specs.Layout.{view, size, rowCount};
+ghost use Rattle.book.specs.Sound.{Sound, Live};
 ghost use Rattle.rules.specs.Kernel as kernel;
-ghost use Rattle.calls.specs.Conditions.{tested};
+ghost use Rattle.calls.specs.Outcome.{Done};
+ghost use Rattle.calls.specs.LinkSegment.{LinkJudged, linkable};
 use super::Answer;
 use super::Begun;
 use super::Judged;
@@ -16,6 +18,7 @@ use super::conditions::writing;
 use super::leave::leave;
 use super::lookup::open_container;
 use super::lookup::open_entry;
+use super::masks::forbids;
 use book::Found;
 use book::find::Entry;
 use book::find::clearance_of;
@@ -27,17 +30,33 @@ use book::find::quota_of;
 use book::kinds::SEGMENT;
 use book::make::add_link;
 use book::units::spare_of;
-use labels::Label;
 
-// RULES 8.9: "7 unless T may write D and O flows to T's clearance."
-fn allowed(mine: Label, clear: Label, holder: Label, theirs: Label) -> Tested
-    ensures { λ r. ⌜ r ≡ tested (kernel.writing mine holder ++ (kernel.flow theirs clear ∷ [])) ⌝ }
+// Whether the thread at row t may link the segment at row o in the container at row c, by the tests from 7 on. Granted with both rows.
+fn admit(b: &[u8], t: usize, c: usize, o: usize) -> Judged
+    requires { ⌜ (length (now b) ≡ size) × Sound (view (now b)) × (t < rowCount) × Live (view (now b)) c × (o < rowCount) ⌝ }
+    ensures { λ r. ⌜ r ≡ linkable (view (now (b .entry))) t c o ⌝ }
 {
-    match writing(mine, holder) {
+    match writing(label_of(b, t), label_of(b, c)) {
         Tested::Pass => {}
-        Tested::Fail(r) => return Tested::Fail(r),
+        Tested::Fail(r) => return Judged::No(r),
     }
-    flow(theirs, clear)
+    match flow(label_of(b, o), clearance_of(b, t)) {
+        Tested::Pass => {}
+        Tested::Fail(r) => return Judged::No(r),
+    }
+    if forbids(b, c, SEGMENT) {
+        return Judged::No(Refusal::MaskForbids);
+    }
+    if !fixed_of(b, o) {
+        return Judged::No(Refusal::QuotaFixed);
+    }
+    let Found::Nothing = link_of(b, c, o) else {
+        return Judged::No(Refusal::AlreadyLinked);
+    };
+    if spare_of(b, c) < quota_of(b, o) {
+        return Judged::No(Refusal::NoSpare);
+    }
+    Judged::Go(c, o)
 }
 
 fn judge(b: &[u8], area: &[u8], caller: u64, d1: u64, o: u64, d: u64) -> Judged
@@ -56,26 +75,7 @@ fn judge(b: &[u8], area: &[u8], caller: u64, d1: u64, o: u64, d: u64) -> Judged
     if kind_of(b, object) != SEGMENT {
         return Judged::No(Refusal::WrongKind);
     }
-    let mine = label_of(b, t);
-    match allowed(
-        mine,
-        clearance_of(b, t),
-        label_of(b, into),
-        label_of(b, object),
-    ) {
-        Tested::Pass => {}
-        Tested::Fail(r) => return Judged::No(r),
-    }
-    if !fixed_of(b, object) {
-        return Judged::No(Refusal::QuotaFixed);
-    }
-    let Found::Nothing = link_of(b, into, object) else {
-        return Judged::No(Refusal::AlreadyLinked);
-    };
-    if spare_of(b, into) < quota_of(b, object) {
-        return Judged::No(Refusal::NoSpare);
-    }
-    Judged::Go(into, object)
+    admit(b, t, into, object)
 }
 
 pub fn link_segment(b: &mut [u8], area: &mut [u8], caller: u64, d1: u64, o: u64, d: u64) -> Answer

@@ -112,8 +112,8 @@ charged-twice-said =
     said 0 7 [] ∷ said 0 8 [] ∷ said 9 0 [] ∷ said 0 0 [] ∷ said 0 0 [] ∷ said 10 0 [] ∷ said 13 0 [] ∷ said 0 14 [] ∷ said 13 0 [] ∷ said 0 16 [] ∷ said 0 0 []
     ∷ said 0 0 [] ∷ said 13 0 [] ∷ said 0 20 [] ∷ []
 
--- Container 7 forbids segments (bit 2), and 9 in it gets the bit too. RULES 8.4: "No other call looks at a
--- mask." So a link still brings one in.
+-- Container 7 forbids segments (bit 2), and 9 in it gets the bit too. RULES 8.4: "Of the other calls only
+-- call 9 looks at a mask." So a link brings none in either.
 masked : List Turn
 masked =
     turn 6 (createContainer 5 one zeros32 4 20)
@@ -127,7 +127,7 @@ masked =
     ∷ []
 
 masked-said : List Said
-masked-said = said 0 7 [] ∷ said 8 0 [] ∷ said 0 9 [] ∷ said 8 0 [] ∷ said 0 11 [] ∷ said 0 12 [] ∷ said 0 0 [] ∷ said 0 0 [] ∷ []
+masked-said = said 0 7 [] ∷ said 8 0 [] ∷ said 0 9 [] ∷ said 8 0 [] ∷ said 0 11 [] ∷ said 0 12 [] ∷ said 0 0 [] ∷ said 8 0 [] ∷ []
 
 -- A gate passes on ownership: floor(T, G) has star where G has it (as join would not). Thread 10 gets star at 7 and can then use container 8.
 ownership : List Turn

@@ -255,7 +255,7 @@ h07-said =
     ∷ said 0 23 []
     ∷ []
 
--- The mask forbids kinds, is handed down, and is judged at creation only
+-- The mask forbids kinds, is handed down, and is asked at creation and at a link
 h08 : List Turn
 h08 =
     turn 6 (createContainer 5 (lent 2 []) zeros32 15 9)
@@ -291,7 +291,7 @@ h08-said =
     ∷ said 0 18 []
     ∷ said 0 19 []
     ∷ said 0 0 []
-    ∷ said 0 0 []
+    ∷ said 8 0 []
     ∷ []
 
 -- Creates fit exactly or not at all

@@ -242,9 +242,48 @@ h16-said =
     ∷ said 7 0 []
     ∷ []
 
--- Quota moves in and back as far as there is spare
+-- A container that forbids segments takes no link of one
 h17 : List Turn
 h17 =
+    turn 6 (createContainer 5 (lent 2 []) zeros32 11 9)
+    ∷ turn 6 (createContainer 5 (lent 2 []) zeros32 4 9)
+    ∷ turn 6 (createContainer 8 (lent 2 []) zeros32 0 5)
+    ∷ turn 6 (createSegment 5 (lent 2 []) zeros32 2)
+    ∷ turn 6 (linkSegment 5 10 8)
+    ∷ turn 6 (fixQuota 5 10)
+    ∷ turn 6 (linkSegment 5 10 8)
+    ∷ turn 6 (linkSegment 5 10 9)
+    ∷ turn 6 (linkSegment 5 10 7)
+    ∷ turn 6 (linkSegment 5 10 7)
+    ∷ turn 6 (unreference 5 10)
+    ∷ turn 6 (linkSegment 7 10 8)
+    ∷ turn 6 (linkSegment 7 10 5)
+    ∷ turn 6 (createThread 8 (lent 2 []) (lent 3 []) zeros32)
+    ∷ turn 6 (createSegment 9 (lent 2 []) zeros32 1)
+    ∷ []
+
+h17-said : List Said
+h17-said =
+    said 0 7 []
+    ∷ said 0 8 []
+    ∷ said 0 9 []
+    ∷ said 0 10 []
+    ∷ said 8 0 []
+    ∷ said 0 0 []
+    ∷ said 8 0 []
+    ∷ said 8 0 []
+    ∷ said 0 0 []
+    ∷ said 10 0 []
+    ∷ said 0 0 []
+    ∷ said 8 0 []
+    ∷ said 0 0 []
+    ∷ said 0 20 []
+    ∷ said 8 0 []
+    ∷ []
+
+-- Quota moves in and back as far as there is spare
+h18 : List Turn
+h18 =
     turn 6 (createContainer 5 (lent 2 []) zeros32 0 6)
     ∷ turn 6 (createSegment 7 (lent 2 []) zeros32 2)
     ∷ turn 6 (moveQuota 7 8 (into 3))
@@ -264,8 +303,8 @@ h17 =
     ∷ turn 6 (moveQuota 5 7 (back 256))
     ∷ []
 
-h17-said : List Said
-h17-said =
+h18-said : List Said
+h18-said =
     said 0 7 []
     ∷ said 0 8 []
     ∷ said 0 0 []
@@ -286,8 +325,8 @@ h17-said =
     ∷ []
 
 -- Only a move back asks that the object be readable
-h18 : List Turn
-h18 =
+h19 : List Turn
+h19 =
     turn 6 createCategory
     ∷ turn 6 (createContainer 5 (lent 2 ((7, 3) ∷ [])) zeros32 0 6)
     ∷ turn 6 (createSegment 5 (lent 2 ((7, 4) ∷ [])) zeros32 2)
@@ -303,8 +342,8 @@ h18 =
     ∷ turn 6 (moveQuota 5 9 (back 2))
     ∷ []
 
-h18-said : List Said
-h18-said =
+h19-said : List Said
+h19-said =
     said 0 7 []
     ∷ said 0 8 []
     ∷ said 0 9 []
@@ -321,8 +360,8 @@ h18-said =
     ∷ []
 
 -- A fixed quota does not move, and does not fix the length
-h19 : List Turn
-h19 =
+h20 : List Turn
+h20 =
     turn 6 (createSegment 5 (lent 2 []) zeros32 2)
     ∷ turn 6 (createGate 5 (lent 2 []) (lent 3 []) 1 zeros32 zeros32)
     ∷ turn 6 (moveQuota 5 7 (into 1))
@@ -339,8 +378,8 @@ h19 =
     ∷ turn 6 (moveQuota 5 8 (into 0))
     ∷ []
 
-h19-said : List Said
-h19-said =
+h20-said : List Said
+h20-said =
     said 0 7 []
     ∷ said 0 8 []
     ∷ said 0 0 []
@@ -355,43 +394,6 @@ h19-said =
     ∷ said 6 0 []
     ∷ said 6 0 []
     ∷ said 6 0 []
-    ∷ []
-
--- What a read shows is what the writes left
-h20 : List Turn
-h20 =
-    turn 6 (createSegment 5 (lent 2 []) zeros32 3)
-    ∷ turn 6 (createSegment 5 (lent 2 []) zeros32 3)
-    ∷ turn 6 (resize 5 7 4)
-    ∷ turn 6 (resize 5 8 66)
-    ∷ turn 6 (write 5 7 0 0 4 (1 ∷ 2 ∷ 3 ∷ 4 ∷ []))
-    ∷ turn 6 (write 5 8 1 0 2 (5 ∷ 6 ∷ []))
-    ∷ turn 6 (write 5 7 0 1 2 (7 ∷ 8 ∷ []))
-    ∷ turn 6 (read 5 7 0 0 4)
-    ∷ turn 6 (resize 5 7 70)
-    ∷ turn 6 (write 5 7 1 4 2 (255 ∷ 9 ∷ []))
-    ∷ turn 6 (read 5 8 0 62 2)
-    ∷ turn 6 (read 5 8 1 0 2)
-    ∷ turn 6 (read 5 7 1 2 4)
-    ∷ turn 6 (read 5 7 0 2 3)
-    ∷ []
-
-h20-said : List Said
-h20-said =
-    said 0 7 []
-    ∷ said 0 8 []
-    ∷ said 0 0 []
-    ∷ said 0 0 []
-    ∷ said 0 0 []
-    ∷ said 0 0 []
-    ∷ said 0 0 []
-    ∷ said 0 0 (1 ∷ 7 ∷ 8 ∷ 4 ∷ [])
-    ∷ said 0 0 []
-    ∷ said 0 0 []
-    ∷ said 0 0 (0 ∷ 0 ∷ [])
-    ∷ said 0 0 (5 ∷ 6 ∷ [])
-    ∷ said 0 0 (0 ∷ 0 ∷ 255 ∷ 9 ∷ [])
-    ∷ said 0 0 (8 ∷ 4 ∷ 0 ∷ [])
     ∷ []
 
 pub days : List Day

@@ -8,9 +8,46 @@ use Rattle.quotas.specs.Any.{any, both, either}
 use Rattle.rules.specs.Kernel.{createCategory, setLabel, setClearance, createContainer, createSegment, createGate, createThread, unreference, linkSegment, fixQuota, moveQuota, read, write, resize, enterGate, look, start, call, after, tests, judge, unless, must, whyNot, mustHold, opens, entry, make, move, access, forbids, fits, spareOf, useOf, charged, units, answerOf, valueOf, outputOf, leaves, apply, put, linkIn, under, below, stays, kept, edit, goodArguments, goodLabel, goodText, holds, allHold, flow, reading, writing, floorFlow, flowJoin, flowJoinHigh, containerOf, segmentOf, gateOf, threadOf, clearedAt, lookBytes, overwrite, resized, orDefault, kindCode, isLive, isThread, isGate, isSegment, isContainer, hasClearance, blank, nothing}
 use Rattle.examples.specs.Play.{Turn, Said, Day, turn, said, day, run, played, written, wordsFor, lent, zeros32, into, back}
 
--- New bytes are zero, also in a block that stayed and in a freed segment's room
+-- What a read shows is what the writes left
 h21 : List Turn
 h21 =
+    turn 6 (createSegment 5 (lent 2 []) zeros32 3)
+    ∷ turn 6 (createSegment 5 (lent 2 []) zeros32 3)
+    ∷ turn 6 (resize 5 7 4)
+    ∷ turn 6 (resize 5 8 66)
+    ∷ turn 6 (write 5 7 0 0 4 (1 ∷ 2 ∷ 3 ∷ 4 ∷ []))
+    ∷ turn 6 (write 5 8 1 0 2 (5 ∷ 6 ∷ []))
+    ∷ turn 6 (write 5 7 0 1 2 (7 ∷ 8 ∷ []))
+    ∷ turn 6 (read 5 7 0 0 4)
+    ∷ turn 6 (resize 5 7 70)
+    ∷ turn 6 (write 5 7 1 4 2 (255 ∷ 9 ∷ []))
+    ∷ turn 6 (read 5 8 0 62 2)
+    ∷ turn 6 (read 5 8 1 0 2)
+    ∷ turn 6 (read 5 7 1 2 4)
+    ∷ turn 6 (read 5 7 0 2 3)
+    ∷ []
+
+h21-said : List Said
+h21-said =
+    said 0 7 []
+    ∷ said 0 8 []
+    ∷ said 0 0 []
+    ∷ said 0 0 []
+    ∷ said 0 0 []
+    ∷ said 0 0 []
+    ∷ said 0 0 []
+    ∷ said 0 0 (1 ∷ 7 ∷ 8 ∷ 4 ∷ [])
+    ∷ said 0 0 []
+    ∷ said 0 0 []
+    ∷ said 0 0 (0 ∷ 0 ∷ [])
+    ∷ said 0 0 (5 ∷ 6 ∷ [])
+    ∷ said 0 0 (0 ∷ 0 ∷ 255 ∷ 9 ∷ [])
+    ∷ said 0 0 (8 ∷ 4 ∷ 0 ∷ [])
+    ∷ []
+
+-- New bytes are zero, also in a block that stayed and in a freed segment's room
+h22 : List Turn
+h22 =
     turn 6 (createSegment 5 (lent 2 []) zeros32 3)
     ∷ turn 6 (resize 5 7 68)
     ∷ turn 6 (write 5 7 0 60 4 (4 ∷ 4 ∷ 4 ∷ 4 ∷ []))
@@ -27,8 +64,8 @@ h21 =
     ∷ turn 6 (read 5 17 1 0 2)
     ∷ []
 
-h21-said : List Said
-h21-said =
+h22-said : List Said
+h22-said =
     said 0 7 []
     ∷ said 0 0 []
     ∷ said 0 0 []
@@ -46,8 +83,8 @@ h21-said =
     ∷ []
 
 -- Parts at the edge of a block and of the length
-h22 : List Turn
-h22 =
+h23 : List Turn
+h23 =
     turn 6 (createSegment 5 (lent 2 []) zeros32 3)
     ∷ turn 6 (read 5 7 0 0 0)
     ∷ turn 6 (read 5 7 0 0 1)
@@ -70,8 +107,8 @@ h22 =
     ∷ turn 6 (resize 5 7 16256)
     ∷ []
 
-h22-said : List Said
-h22-said =
+h23-said : List Said
+h23-said =
     said 0 7 []
     ∷ said 0 0 []
     ∷ said 11 0 []
@@ -95,8 +132,8 @@ h22-said =
     ∷ []
 
 -- Readers, writers and owners of a segment
-h23 : List Turn
-h23 =
+h24 : List Turn
+h24 =
     turn 6 createCategory
     ∷ turn 6 (createSegment 5 (lent 2 []) zeros32 2)
     ∷ turn 6 (createSegment 5 (lent 2 ((7, 4) ∷ [])) zeros32 2)
@@ -118,8 +155,8 @@ h23 =
     ∷ turn 11 (read 5 10 0 0 2)
     ∷ []
 
-h23-said : List Said
-h23-said =
+h24-said : List Said
+h24-said =
     said 0 7 []
     ∷ said 0 8 []
     ∷ said 0 9 []
@@ -142,8 +179,8 @@ h23-said =
     ∷ []
 
 -- A gate passes on ownership, its entry number and its closure
-h24 : List Turn
-h24 =
+h25 : List Turn
+h25 =
     turn 6 createCategory
     ∷ turn 6 (createGate 5 (lent 2 ((7, 0) ∷ [])) (lent 3 []) 77 (1 ∷ 2 ∷ 3 ∷ 4 ∷ 5 ∷ 6 ∷ 7 ∷ 8 ∷ 9 ∷ 10 ∷ 11 ∷ 12 ∷ 13 ∷ 14 ∷ 15 ∷ 16 ∷ 17 ∷ 18 ∷ 19 ∷ 20 ∷ 21 ∷ 22 ∷ 23 ∷ 24 ∷ 25 ∷ 26 ∷ 27 ∷ 28 ∷ 29 ∷ 30 ∷ 31 ∷ 32 ∷ []) zeros32)
     ∷ turn 6 (createSegment 5 (lent 2 ((7, 1) ∷ [])) zeros32 2)
@@ -160,8 +197,8 @@ h24 =
     ∷ turn 10 (write 5 9 0 0 1 (4 ∷ []))
     ∷ []
 
-h24-said : List Said
-h24-said =
+h25-said : List Said
+h25-said =
     said 0 7 []
     ∷ said 0 8 []
     ∷ said 0 9 []
@@ -179,8 +216,8 @@ h24-said =
     ∷ []
 
 -- Each condition of a gate in turn
-h25 : List Turn
-h25 =
+h26 : List Turn
+h26 =
     turn 6 createCategory
     ∷ turn 6 (createGate 5 (lent 2 ((3, 3) ∷ [])) (lent 3 ((4, 2) ∷ [])) 1 zeros32 zeros32)
     ∷ turn 6 (createGate 5 (lent 2 []) (lent 3 ((7, 4) ∷ [])) 2 zeros32 zeros32)
@@ -200,8 +237,8 @@ h25 =
     ∷ turn 6 (setLabel (lent 2 ((7, 0) ∷ [])))
     ∷ []
 
-h25-said : List Said
-h25-said =
+h26-said : List Said
+h26-said =
     said 0 7 []
     ∷ said 0 8 []
     ∷ said 0 9 []
@@ -222,8 +259,8 @@ h25-said =
     ∷ []
 
 -- The verify label proves a star without giving it away
-h26 : List Turn
-h26 =
+h27 : List Turn
+h27 =
     turn 6 createCategory
     ∷ turn 6 (createGate 5 (lent 2 []) (lent 3 []) 5 zeros32 zeros32)
     ∷ turn 6 (createThread 5 (lent 2 []) (lent 3 []) zeros32)
@@ -237,8 +274,8 @@ h26 =
     ∷ turn 6 (enterGate 5 8 (lent 2 []) (lent 3 []) (lent 2 ((7, 0) ∷ [])) 32)
     ∷ []
 
-h26-said : List Said
-h26-said =
+h27-said : List Said
+h27-said =
     said 0 7 []
     ∷ said 0 8 []
     ∷ said 0 9 []
@@ -253,8 +290,8 @@ h26-said =
     ∷ []
 
 -- Floor and join are compared though they name sixteen categories
-h27 : List Turn
-h27 =
+h28 : List Turn
+h28 =
     turn 18 (createGate 17 (lent 2 ((1, 3) ∷ (2, 3) ∷ (3, 3) ∷ (4, 3) ∷ (5, 3) ∷ (6, 3) ∷ (7, 3) ∷ (8, 3) ∷ [])) (lent 3 []) 1 zeros32 zeros32)
     ∷ turn 18 (createGate 17 (lent 2 []) (lent 3 ((1, 2) ∷ (2, 2) ∷ (3, 2) ∷ (4, 2) ∷ (5, 2) ∷ (6, 2) ∷ (7, 2) ∷ (8, 2) ∷ [])) 2 zeros32 zeros32)
     ∷ turn 18 (createThread 17 (lent 2 ((9, 3) ∷ (10, 3) ∷ (11, 3) ∷ (12, 3) ∷ (13, 3) ∷ (14, 3) ∷ (15, 3) ∷ (16, 3) ∷ [])) (lent 3 []) zeros32)
@@ -269,8 +306,8 @@ h27 =
     ∷ turn 22 (setClearance (lent 2 ((9, 3) ∷ (10, 3) ∷ (11, 3) ∷ (12, 3) ∷ (13, 3) ∷ (14, 3) ∷ (15, 3) ∷ (16, 3) ∷ [])))
     ∷ []
 
-h27-said : List Said
-h27-said =
+h28-said : List Said
+h28-said =
     said 0 19 []
     ∷ said 0 20 []
     ∷ said 0 21 []
@@ -286,8 +323,8 @@ h27-said =
     ∷ []
 
 -- Gates entered with malformed arguments, and what is no gate
-h28 : List Turn
-h28 =
+h29 : List Turn
+h29 =
     turn 6 (createGate 5 (lent 2 []) (lent 3 []) 1 zeros32 zeros32)
     ∷ turn 6 (createSegment 5 (lent 2 []) zeros32 1)
     ∷ turn 6 (createContainer 5 (lent 2 []) zeros32 0 1)
@@ -304,8 +341,8 @@ h28 =
     ∷ turn 6 (enterGate 5 7 (lent 2 []) (lent 3 []) (lent 2 []) 32)
     ∷ []
 
-h28-said : List Said
-h28-said =
+h29-said : List Said
+h29-said =
     said 0 7 []
     ∷ said 0 8 []
     ∷ said 0 9 []
@@ -323,8 +360,8 @@ h28-said =
     ∷ []
 
 -- A look shows every label but an unreadable thread's
-h29 : List Turn
-h29 =
+h30 : List Turn
+h30 =
     turn 6 createCategory
     ∷ turn 6 (createSegment 5 (lent 2 ((7, 4) ∷ [])) zeros32 1)
     ∷ turn 6 (createThread 5 (lent 2 ((7, 4) ∷ [])) (lent 2 ((7, 4) ∷ [])) zeros32)
@@ -340,8 +377,8 @@ h29 =
     ∷ turn 10 (look 11 5 104)
     ∷ []
 
-h29-said : List Said
-h29-said =
+h30-said : List Said
+h30-said =
     said 0 7 []
     ∷ said 0 8 []
     ∷ said 0 9 []
@@ -357,47 +394,6 @@ h29-said =
     ∷ said 5 0 []
     ∷ []
 
--- A container and a segment, mended one refusal at a time
-h30 : List Turn
-h30 =
-    turn 6 (createContainer 5 (lent 2 []) zeros32 12 2)
-    ∷ turn 6 (createContainer 5 (lent 2 []) zeros32 0 6)
-    ∷ turn 8 (createContainer 39 (lent 1 []) zeros32 16 256)
-    ∷ turn 6 (createContainer 39 (lent 1 []) zeros32 16 255)
-    ∷ turn 6 (createContainer 6 (lent 1 []) zeros32 15 255)
-    ∷ turn 6 (createContainer 7 (lent 1 []) zeros32 15 255)
-    ∷ turn 6 (createContainer 7 (lent 2 []) zeros32 15 255)
-    ∷ turn 6 (createContainer 8 (lent 2 []) zeros32 15 255)
-    ∷ turn 6 (createContainer 8 (lent 2 []) zeros32 15 2)
-    ∷ turn 5 (createSegment 39 (lent 1 []) zeros32 256)
-    ∷ turn 6 (createSegment 39 (lent 1 []) zeros32 256)
-    ∷ turn 6 (createSegment 39 (lent 1 []) zeros32 0)
-    ∷ turn 6 (createSegment 7 (lent 1 []) zeros32 0)
-    ∷ turn 6 (createSegment 7 (lent 2 []) zeros32 0)
-    ∷ turn 6 (createSegment 8 (lent 2 []) zeros32 0)
-    ∷ turn 6 (createSegment 8 (lent 2 []) zeros32 3)
-    ∷ []
-
-h30-said : List Said
-h30-said =
-    said 0 7 []
-    ∷ said 0 8 []
-    ∷ said 3 0 []
-    ∷ said 4 0 []
-    ∷ said 5 0 []
-    ∷ said 7 0 []
-    ∷ said 8 0 []
-    ∷ said 13 0 []
-    ∷ said 0 15 []
-    ∷ said 3 0 []
-    ∷ said 4 0 []
-    ∷ said 5 0 []
-    ∷ said 7 0 []
-    ∷ said 8 0 []
-    ∷ said 13 0 []
-    ∷ said 0 22 []
-    ∷ []
-
 pub days : List Day
 days =
     day 5 h21 h21-said
@@ -406,8 +402,8 @@ days =
     ∷ day 5 h24 h24-said
     ∷ day 5 h25 h25-said
     ∷ day 5 h26 h26-said
-    ∷ day 17 h27 h27-said
-    ∷ day 5 h28 h28-said
+    ∷ day 5 h27 h27-said
+    ∷ day 17 h28 h28-said
     ∷ day 5 h29 h29-said
     ∷ day 5 h30 h30-said
     ∷ []

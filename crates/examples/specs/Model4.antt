@@ -8,25 +8,25 @@ use Rattle.quotas.specs.Any.{any, both, either}
 use Rattle.rules.specs.Kernel.{createCategory, setLabel, setClearance, createContainer, createSegment, createGate, createThread, unreference, linkSegment, fixQuota, moveQuota, read, write, resize, enterGate, look, start, call, after, tests, judge, unless, must, whyNot, mustHold, opens, entry, make, move, access, forbids, fits, spareOf, useOf, charged, units, answerOf, valueOf, outputOf, leaves, apply, put, linkIn, under, below, stays, kept, edit, goodArguments, goodLabel, goodText, holds, allHold, flow, reading, writing, floorFlow, flowJoin, flowJoinHigh, containerOf, segmentOf, gateOf, threadOf, clearedAt, lookBytes, overwrite, resized, orDefault, kindCode, isLive, isThread, isGate, isSegment, isContainer, hasClearance, blank, nothing}
 use Rattle.examples.specs.Play.{Turn, Said, Day, turn, said, day, run, played, written, wordsFor, lent, zeros32, into, back}
 
--- A gate and a thread, mended one refusal at a time
+-- A container and a segment, mended one refusal at a time
 h31 : List Turn
 h31 =
-    turn 6 (createContainer 5 (lent 2 []) zeros32 3 1)
-    ∷ turn 6 (createContainer 5 (lent 2 []) zeros32 0 1)
-    ∷ turn 39 (createGate 39 (lent 1 []) (lent 3 ((3, 0) ∷ [])) 9 zeros32 zeros32)
-    ∷ turn 6 (createGate 39 (lent 1 []) (lent 3 ((3, 0) ∷ [])) 9 zeros32 zeros32)
-    ∷ turn 6 (createGate 39 (lent 1 []) (lent 4 []) 9 zeros32 zeros32)
-    ∷ turn 6 (createGate 7 (lent 1 []) (lent 4 []) 9 zeros32 zeros32)
-    ∷ turn 6 (createGate 7 (lent 2 []) (lent 3 []) 9 zeros32 zeros32)
-    ∷ turn 6 (createGate 8 (lent 2 []) (lent 3 []) 9 zeros32 zeros32)
-    ∷ turn 6 (createGate 5 (lent 2 []) (lent 3 []) 9 zeros32 zeros32)
-    ∷ turn 7 (createThread 39 (lent 2 ((0, 1) ∷ [])) (lent 4 []) zeros32)
-    ∷ turn 6 (createThread 39 (lent 2 ((0, 1) ∷ [])) (lent 4 []) zeros32)
-    ∷ turn 6 (createThread 39 (lent 2 []) (lent 4 []) zeros32)
-    ∷ turn 6 (createThread 7 (lent 2 []) (lent 4 []) zeros32)
-    ∷ turn 6 (createThread 7 (lent 2 []) (lent 3 []) zeros32)
-    ∷ turn 6 (createThread 8 (lent 2 []) (lent 3 []) zeros32)
-    ∷ turn 6 (createThread 5 (lent 2 []) (lent 3 []) zeros32)
+    turn 6 (createContainer 5 (lent 2 []) zeros32 12 2)
+    ∷ turn 6 (createContainer 5 (lent 2 []) zeros32 0 6)
+    ∷ turn 8 (createContainer 39 (lent 1 []) zeros32 16 256)
+    ∷ turn 6 (createContainer 39 (lent 1 []) zeros32 16 255)
+    ∷ turn 6 (createContainer 6 (lent 1 []) zeros32 15 255)
+    ∷ turn 6 (createContainer 7 (lent 1 []) zeros32 15 255)
+    ∷ turn 6 (createContainer 7 (lent 2 []) zeros32 15 255)
+    ∷ turn 6 (createContainer 8 (lent 2 []) zeros32 15 255)
+    ∷ turn 6 (createContainer 8 (lent 2 []) zeros32 15 2)
+    ∷ turn 5 (createSegment 39 (lent 1 []) zeros32 256)
+    ∷ turn 6 (createSegment 39 (lent 1 []) zeros32 256)
+    ∷ turn 6 (createSegment 39 (lent 1 []) zeros32 0)
+    ∷ turn 6 (createSegment 7 (lent 1 []) zeros32 0)
+    ∷ turn 6 (createSegment 7 (lent 2 []) zeros32 0)
+    ∷ turn 6 (createSegment 8 (lent 2 []) zeros32 0)
+    ∷ turn 6 (createSegment 8 (lent 2 []) zeros32 3)
     ∷ []
 
 h31-said : List Said
@@ -49,19 +49,63 @@ h31-said =
     ∷ said 0 22 []
     ∷ []
 
--- A link, mended one refusal at a time
+-- A gate and a thread, mended one refusal at a time
 h32 : List Turn
 h32 =
+    turn 6 (createContainer 5 (lent 2 []) zeros32 3 1)
+    ∷ turn 6 (createContainer 5 (lent 2 []) zeros32 0 1)
+    ∷ turn 39 (createGate 39 (lent 1 []) (lent 3 ((3, 0) ∷ [])) 9 zeros32 zeros32)
+    ∷ turn 6 (createGate 39 (lent 1 []) (lent 3 ((3, 0) ∷ [])) 9 zeros32 zeros32)
+    ∷ turn 6 (createGate 39 (lent 1 []) (lent 4 []) 9 zeros32 zeros32)
+    ∷ turn 6 (createGate 7 (lent 1 []) (lent 4 []) 9 zeros32 zeros32)
+    ∷ turn 6 (createGate 7 (lent 2 []) (lent 3 []) 9 zeros32 zeros32)
+    ∷ turn 6 (createGate 8 (lent 2 []) (lent 3 []) 9 zeros32 zeros32)
+    ∷ turn 6 (createGate 5 (lent 2 []) (lent 3 []) 9 zeros32 zeros32)
+    ∷ turn 7 (createThread 39 (lent 2 ((0, 1) ∷ [])) (lent 4 []) zeros32)
+    ∷ turn 6 (createThread 39 (lent 2 ((0, 1) ∷ [])) (lent 4 []) zeros32)
+    ∷ turn 6 (createThread 39 (lent 2 []) (lent 4 []) zeros32)
+    ∷ turn 6 (createThread 7 (lent 2 []) (lent 4 []) zeros32)
+    ∷ turn 6 (createThread 7 (lent 2 []) (lent 3 []) zeros32)
+    ∷ turn 6 (createThread 8 (lent 2 []) (lent 3 []) zeros32)
+    ∷ turn 6 (createThread 5 (lent 2 []) (lent 3 []) zeros32)
+    ∷ []
+
+h32-said : List Said
+h32-said =
+    said 0 7 []
+    ∷ said 0 8 []
+    ∷ said 3 0 []
+    ∷ said 4 0 []
+    ∷ said 5 0 []
+    ∷ said 7 0 []
+    ∷ said 8 0 []
+    ∷ said 13 0 []
+    ∷ said 0 15 []
+    ∷ said 3 0 []
+    ∷ said 4 0 []
+    ∷ said 5 0 []
+    ∷ said 7 0 []
+    ∷ said 8 0 []
+    ∷ said 13 0 []
+    ∷ said 0 22 []
+    ∷ []
+
+-- A link, mended one refusal at a time
+h33 : List Turn
+h33 =
     turn 6 (createSegment 5 (lent 2 []) zeros32 4)
     ∷ turn 6 (createContainer 5 (lent 2 []) zeros32 0 4)
+    ∷ turn 6 (createContainer 5 (lent 2 []) zeros32 4 4)
     ∷ turn 6 (createThread 5 (lent 3 []) (lent 3 []) zeros32)
     ∷ turn 7 (linkSegment 39 8 39)
-    ∷ turn 9 (linkSegment 5 8 39)
-    ∷ turn 9 (linkSegment 8 8 8)
-    ∷ turn 9 (linkSegment 5 8 8)
-    ∷ turn 9 (linkSegment 5 7 8)
+    ∷ turn 10 (linkSegment 5 8 39)
+    ∷ turn 10 (linkSegment 8 8 8)
+    ∷ turn 10 (linkSegment 5 8 9)
+    ∷ turn 10 (linkSegment 5 7 9)
+    ∷ turn 6 (linkSegment 5 7 9)
     ∷ turn 6 (linkSegment 5 7 5)
     ∷ turn 6 (fixQuota 5 7)
+    ∷ turn 6 (linkSegment 5 7 9)
     ∷ turn 6 (linkSegment 5 7 5)
     ∷ turn 6 (linkSegment 5 7 8)
     ∷ turn 6 (moveQuota 5 8 (into 1))
@@ -69,18 +113,21 @@ h32 =
     ∷ turn 6 (linkSegment 5 7 8)
     ∷ []
 
-h32-said : List Said
-h32-said =
+h33-said : List Said
+h33-said =
     said 0 7 []
     ∷ said 0 8 []
     ∷ said 0 9 []
+    ∷ said 0 10 []
     ∷ said 3 0 []
     ∷ said 5 0 []
     ∷ said 5 0 []
     ∷ said 6 0 []
     ∷ said 7 0 []
+    ∷ said 8 0 []
     ∷ said 9 0 []
     ∷ said 0 0 []
+    ∷ said 8 0 []
     ∷ said 10 0 []
     ∷ said 13 0 []
     ∷ said 0 0 []
@@ -89,8 +136,8 @@ h32-said =
     ∷ []
 
 -- A move, mended one refusal at a time
-h33 : List Turn
-h33 =
+h34 : List Turn
+h34 =
     turn 6 (createContainer 5 (lent 2 []) zeros32 0 8)
     ∷ turn 6 (createSegment 7 (lent 2 []) zeros32 2)
     ∷ turn 6 (createSegment 7 (lent 2 []) zeros32 2)
@@ -109,8 +156,8 @@ h33 =
     ∷ turn 6 (moveQuota 7 9 (back 4))
     ∷ []
 
-h33-said : List Said
-h33-said =
+h34-said : List Said
+h34-said =
     said 0 7 []
     ∷ said 0 8 []
     ∷ said 0 9 []
@@ -130,8 +177,8 @@ h33-said =
     ∷ []
 
 -- A read and a write, mended one refusal at a time
-h34 : List Turn
-h34 =
+h35 : List Turn
+h35 =
     turn 6 (createSegment 5 (lent 2 ((3, 3) ∷ [])) zeros32 2)
     ∷ turn 6 (setClearance (lent 2 ((3, 3) ∷ [])))
     ∷ turn 6 (createThread 5 (lent 2 ((3, 3) ∷ [])) (lent 2 ((3, 3) ∷ [])) zeros32)
@@ -152,8 +199,8 @@ h34 =
     ∷ turn 9 (read 5 7 0 0 1)
     ∷ []
 
-h34-said : List Said
-h34-said =
+h35-said : List Said
+h35-said =
     said 0 7 []
     ∷ said 0 0 []
     ∷ said 0 9 []
@@ -175,8 +222,8 @@ h34-said =
     ∷ []
 
 -- A resize, an unreference, a fix and an entry, mended one refusal at a time
-h35 : List Turn
-h35 =
+h36 : List Turn
+h36 =
     turn 6 (createSegment 5 (lent 2 []) zeros32 2)
     ∷ turn 6 (createThread 5 (lent 3 []) (lent 3 []) zeros32)
     ∷ turn 6 (createGate 5 (lent 2 []) (lent 3 []) 4 zeros32 zeros32)
@@ -199,8 +246,8 @@ h35 =
     ∷ turn 6 (unreference 5 8)
     ∷ []
 
-h35-said : List Said
-h35-said =
+h36-said : List Said
+h36-said =
     said 0 7 []
     ∷ said 0 8 []
     ∷ said 0 9 []
@@ -224,8 +271,8 @@ h35-said =
     ∷ []
 
 -- A thread that has been freed calls no more
-h36 : List Turn
-h36 =
+h37 : List Turn
+h37 =
     turn 6 (createSegment 5 (lent 2 []) zeros32 2)
     ∷ turn 6 (createGate 5 (lent 2 []) (lent 3 []) 1 zeros32 zeros32)
     ∷ turn 6 (createContainer 5 (lent 2 []) zeros32 0 9)
@@ -252,8 +299,8 @@ h36 =
     ∷ turn 6 createCategory
     ∷ []
 
-h36-said : List Said
-h36-said =
+h37-said : List Said
+h37-said =
     said 0 7 []
     ∷ said 0 8 []
     ∷ said 0 9 []
@@ -281,8 +328,8 @@ h36-said =
     ∷ []
 
 -- An unreadable container answers as an absent one does
-h37 : List Turn
-h37 =
+h38 : List Turn
+h38 =
     turn 6 createCategory
     ∷ turn 6 (createContainer 5 (lent 2 ((7, 4) ∷ [])) zeros32 0 9)
     ∷ turn 6 (createSegment 8 (lent 2 ((7, 4) ∷ [])) zeros32 1)
@@ -305,8 +352,8 @@ h37 =
     ∷ turn 6 (read 8 9 0 0 0)
     ∷ []
 
-h37-said : List Said
-h37-said =
+h38-said : List Said
+h38-said =
     said 0 7 []
     ∷ said 0 8 []
     ∷ said 0 9 []
@@ -330,8 +377,8 @@ h37-said =
     ∷ []
 
 -- Arguments as large as numbers go
-h38 : List Turn
-h38 =
+h39 : List Turn
+h39 =
     turn 6 (createSegment 5 (lent 2 []) zeros32 2)
     ∷ turn 18446744073709551615 createCategory
     ∷ turn 6 (createContainer 5 (lent 2 []) zeros32 18446744073709551615 1)
@@ -350,8 +397,8 @@ h38 =
     ∷ turn 6 (enterGate 5 21 (lent 2 []) (lent 3 []) (lent 2 []) 32)
     ∷ []
 
-h38-said : List Said
-h38-said =
+h39-said : List Said
+h39-said =
     said 0 7 []
     ∷ said 3 0 []
     ∷ said 4 0 []
@@ -371,8 +418,8 @@ h38-said =
     ∷ []
 
 -- The last number there is, and every call after it
-h39 : List Turn
-h39 =
+h40 : List Turn
+h40 =
     turn 2305843009213693950 createCategory
     ∷ turn 2305843009213693950 createCategory
     ∷ turn 2305843009213693950 (setLabel (lent 2 ((2305843009213693951, 0) ∷ [])))
@@ -393,8 +440,8 @@ h39 =
     ∷ turn 39 (setLabel [])
     ∷ []
 
-h39-said : List Said
-h39-said =
+h40-said : List Said
+h40-said =
     said 0 2305843009213693951 []
     ∷ said 2 0 []
     ∷ said 2 0 []
@@ -415,65 +462,6 @@ h39-said =
     ∷ said 2 0 []
     ∷ []
 
--- Drawn 1: 25 calls with the answers 0, 7
-h40 : List Turn
-h40 =
-    turn 6 (createGate 5 (lent 2 []) (lent 2 []) 0 zeros32 zeros32)
-    ∷ turn 6 (createContainer 5 (lent 2 []) zeros32 2 250)
-    ∷ turn 6 createCategory
-    ∷ turn 6 (createThread 5 (lent 2 ((9, 1) ∷ [])) (lent 3 ((9, 4) ∷ [])) zeros32)
-    ∷ turn 6 (createSegment 8 (lent 2 []) zeros32 9)
-    ∷ turn 6 (resize 8 11 67)
-    ∷ turn 6 (fixQuota 8 11)
-    ∷ turn 6 (moveQuota 5 8 (into 0))
-    ∷ turn 6 createCategory
-    ∷ turn 6 (unreference 5 8)
-    ∷ turn 10 (setLabel (lent 3 []))
-    ∷ turn 6 (setClearance (lent 3 ((9, 4) ∷ (15, 4) ∷ [])))
-    ∷ turn 10 (unreference 5 7)
-    ∷ turn 10 (createGate 5 (lent 3 []) (lent 3 ((9, 4) ∷ [])) 7 zeros32 zeros32)
-    ∷ turn 10 (createSegment 5 (lent 3 []) zeros32 2)
-    ∷ turn 10 (createContainer 5 (lent 3 []) zeros32 1 3)
-    ∷ turn 10 (setClearance (lent 3 []))
-    ∷ turn 6 (createThread 5 (lent 3 []) (lent 2 []) zeros32)
-    ∷ turn 6 (setLabel (lent 2 []))
-    ∷ turn 10 (setLabel (lent 4 []))
-    ∷ turn 10 (enterGate 5 7 (lent 3 []) (lent 2 []) (lent 3 []) 32)
-    ∷ turn 10 (setClearance (lent 1 ((3, 4) ∷ [])))
-    ∷ turn 6 (unreference 5 7)
-    ∷ turn 10 (createContainer 5 (lent 2 []) zeros32 2 0)
-    ∷ turn 6 (createThread 5 (lent 2 []) (lent 2 []) zeros32)
-    ∷ []
-
-h40-said : List Said
-h40-said =
-    said 0 7 []
-    ∷ said 0 8 []
-    ∷ said 0 9 []
-    ∷ said 0 10 []
-    ∷ said 0 11 []
-    ∷ said 0 0 []
-    ∷ said 0 0 []
-    ∷ said 0 0 []
-    ∷ said 0 15 []
-    ∷ said 0 0 []
-    ∷ said 0 0 []
-    ∷ said 0 0 []
-    ∷ said 7 0 []
-    ∷ said 7 0 []
-    ∷ said 7 0 []
-    ∷ said 7 0 []
-    ∷ said 0 0 []
-    ∷ said 7 0 []
-    ∷ said 0 0 []
-    ∷ said 7 0 []
-    ∷ said 7 0 []
-    ∷ said 7 0 []
-    ∷ said 0 0 []
-    ∷ said 7 0 []
-    ∷ said 0 31 []
-    ∷ []
-
 pub days : List Day
 days =
     day 5 h31 h31-said
@@ -484,8 +472,8 @@ days =
     ∷ day 5 h36 h36-said
     ∷ day 5 h37 h37-said
     ∷ day 5 h38 h38-said
-    ∷ day 2305843009213693949 h39 h39-said
-    ∷ day 5 h40 h40-said
+    ∷ day 5 h39 h39-said
+    ∷ day 2305843009213693949 h40 h40-said
     ∷ []
 
 pub model-agrees : played days ≡ written days

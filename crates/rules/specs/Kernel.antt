@@ -509,16 +509,17 @@ judge w t c (unreference d o) =
     (mustHold (writing (t .label) ((w .obj d) .label))
     (grant 0 [] (cut d o)))
 -- RULES 8.9: "5 unless (D1, O) is an entry, D is a container and T may read D. 6 unless O is a segment. 7
--- unless T may write D and O flows to T's clearance. 9 unless O's quota is fixed. 10 if O is linked in D
--- already. 13 if O's quota is above D's spare. O is then linked in D as well."
+-- unless T may write D and O flows to T's clearance. 8 if D's mask forbids segments. 9 unless O's quota is
+-- fixed. 10 if O is linked in D already. 13 if O's quota is above D's spare. O is then linked in D as well."
 judge w t c (linkSegment d1 o d) =
     must (entry w t d1 o && opens w t d) 5
     (must (isSegment ((w .obj o) .kind)) 6
     (mustHold (writing (t .label) ((w .obj d) .label) ++ (flow ((w .obj o) .label) (t .clearance) ∷ []))
+    (must (not (forbids ((w .obj d) .mask) segment)) 8
     (must ((w .obj o) .fixed) 9
     (must (not (w .linked d o)) 10
     (must (fits w d ((w .obj o) .quota)) 13
-    (grant 0 [] (link d o)))))))
+    (grant 0 [] (link d o))))))))
 -- RULES 8.10: "5 unless (D, O) is an entry. 6 unless O is a segment. 7 unless T may write D and T flows to O.
 -- O's quota is fixed for good; if it was fixed before, nothing changes."
 judge w t c (fixQuota d o) =

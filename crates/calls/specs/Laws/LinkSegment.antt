@@ -1,50 +1,47 @@
 -- Call 9: the verdict at each way out of its judging, and what it does.
-use Prim.Native.Nat.{ℕ, _<_, _≤_}
+use Prim.Native.Nat.{ℕ}
 use mathlib.Core.Bool.{Bool, true, false, not, _&&_}
-use mathlib.Core.Path.{_≡_, refl, sym, ap, ap₂, _∙_}
+use mathlib.Core.Path.{_≡_, refl, sym, ap, ap₂, subst, _∙_}
 use mathlib.Core.List.{List, [], _∷_, _++_}
 use lib.ListN.{length}
 use lib.Dec.{eqb, leb}
-use borrow.Author.Tests.{le-leb, lt-leb}
-use Rattle.labels.specs.declared.Label.{Label}
-use Rattle.rules.specs.Kernel.{segmentCode, Obj, World, Condition, Verdict, refuse, grant, must, mustHold, judge, entry, opens, fits, isSegment, writing, flow, linkSegment, link, goodArguments}
+use Rattle.rules.specs.Kernel.{segmentCode, segment, kindCode, Obj, World, Verdict, refuse, grant, must, mustHold, judge, entry, opens, forbids, fits, isSegment, writing, flow}
+use Rattle.rules.specs.Kernel.{linkSegment, link, goodArguments}
 use Rattle.tables.specs.Layout.{view}
 use Rattle.book.specs.declared.Found.the-variants.{At, Nothing}
 use Rattle.book.specs.declared.find.Entry.the-variants as place
-use Rattle.book.specs.Book.{codeOf, fixedOf, quotaOf, labelOf, clearanceOf, worldOf}
+use Rattle.book.specs.Book.{onFound, idOf, codeOf, fixedOf, quotaOf, labelOf, clearanceOf, worldOf}
 use Rattle.book.specs.Enact.{enactView, enactArea}
 use Rattle.book.specs.Find.{linkBetween}
 use Rattle.book.specs.Make.{linkedIn, Linking}
 use Rattle.book.specs.Units.{spareAt}
+use Rattle.book.specs.Laws.First.{on-at, on-nothing, found-cases}
 use Rattle.book.specs.Laws.Find.{link-linked, link-unlinked}
 use Rattle.book.specs.Laws.Tie.{object-fixed}
 use Rattle.calls.specs.declared.Answer.the-variants.{Granted}
-use Rattle.calls.specs.declared.Refusal.{Refusal}
-use Rattle.calls.specs.declared.Tested.the-variants.{Pass, Fail}
-use Rattle.calls.specs.Outcome.{verdictOn, Ready, Told, Done}
-use Rattle.calls.specs.Conditions.{tested}
+use Rattle.calls.specs.declared.Refusal.the-variants.{MaskForbids, QuotaFixed, AlreadyLinked, NoSpare}
+use Rattle.calls.specs.declared.Judged.{Judged}
+use Rattle.calls.specs.Outcome.{verdictOn, Means, Ready, Done}
 use Rattle.calls.specs.Begun.{Caller}
 use Rattle.calls.specs.Lookup.{openContainer, openEntry}
-use Rattle.calls.specs.LinkSegment.{ToLink}
+use Rattle.calls.specs.Masks.{forbidsAt}
+use Rattle.calls.specs.LinkSegment.{ToLink, LinkJudged, linkable}
 use Rattle.calls.specs.Laws.Begun.{caller-judged, caller-label, caller-clearance, placed-by-caller}
-use Rattle.calls.specs.Laws.Conditions.{pass-on, fail-told}
 use Rattle.calls.specs.Laws.Entry.{no-entry, is-entry, object-below, object-there, object-named, object-found, object-is, segment-here, no-segment, its-label, its-quota}
-use Rattle.calls.specs.Laws.Lookup.{not-open, is-open, holder-there, holder-named, holder-found, holder-label, holder-fits}
+use Rattle.calls.specs.Laws.Lookup.{not-open, is-open, holder-there, holder-named, holder-found, holder-label, holder-forbids, holder-fits}
 use Rattle.calls.specs.Laws.Prelude.{must-passed, must-failed, book-long, done-granted}
+use Rattle.calls.specs.Laws.Tested.{means-tested, means-both}
 
--- ---- the tests, from each number on
-
-abbrev conditionsOf : World → Obj → ℕ → ℕ → List Condition
-conditionsOf w t o d = writing (t .label) ((w .obj d) .label) ++ (flow ((w .obj o) .label) (t .clearance) ∷ [])
-
-abbrev from-thirteen : World → ℕ → ℕ → Verdict
-from-thirteen w o d = must (fits w d ((w .obj o) .quota)) 13 (grant 0 [] (link d o))
-
-abbrev from-nine : World → ℕ → ℕ → Verdict
-from-nine w o d = must ((w .obj o) .fixed) 9 (must (not (w .linked d o)) 10 (from-thirteen w o d))
+-- the tests from 8 on
+abbrev from-eight : Bool → Bool → Bool → Bool → ℕ → ℕ → Verdict
+from-eight forbidden fixed new fitting o d =
+    must (not forbidden) 8 (must fixed 9 (must new 10 (must fitting 13 (grant 0 [] (link d o)))))
 
 abbrev from-six : World → Obj → ℕ → ℕ → Verdict
-from-six w t o d = must (isSegment ((w .obj o) .kind)) 6 (mustHold (conditionsOf w t o d) (from-nine w o d))
+from-six w t o d =
+    must (isSegment ((w .obj o) .kind)) 6
+    (mustHold (writing (t .label) ((w .obj d) .label) ++ (flow ((w .obj o) .label) (t .clearance) ∷ []))
+    (from-eight (forbids ((w .obj d) .mask) segment) ((w .obj o) .fixed) (not (w .linked d o)) (fits w d ((w .obj o) .quota)) o d))
 
 and-false : (a : Bool) → (a && false) ≡ false
 and-false true = refl
@@ -79,79 +76,63 @@ module _ (b area : List ℕ) (c t d1 o d : ℕ) (by : Caller b area c t) where
     pub kind-six : (n ≡ segmentCode → ⊥) → verdictOn b area c (linkSegment d1 o d) ≡ refuse 6
     kind-six s = at-six ∙ must-failed _ 6 _ (no-segment b area c t d1 o by h r l e n en s)
 
-    -- x and u are the label and the clearance of the caller, z and p the labels of the container to link it in and of the segment
-    module _ (s : n ≡ segmentCode) (x u z p : Label) (ex : x ≡ labelOf (view b) t) (eu : u ≡ clearanceOf (view b) t) (ez : z ≡ labelOf (view b) k) (ep : p ≡ labelOf (view b) r) where
-      at-seven : verdictOn b area c (linkSegment d1 o d)
-          ≡ mustHold (conditionsOf (worldOf (view b) area) (worldOf (view b) area .obj c) o d) (from-nine (worldOf (view b) area) o d)
-      at-seven = at-six ∙ must-passed _ 6 _ (segment-here b area c t d1 o by h r l e n en s)
+    module _ (s : n ≡ segmentCode) where
+      forbidden : forbids ((worldOf (view b) area .obj d) .mask) segment ≡ forbidsAt (view b) k segmentCode
+      unfolding kindCode
+      forbidden = holder-forbids b area c t d by k g segment
 
-      labels-are : conditionsOf (worldOf (view b) area) (worldOf (view b) area .obj c) o d ≡ writing x z ++ (flow p u ∷ [])
-      labels-are =
-          ap₂ (λ m w. writing m ((worldOf (view b) area .obj d) .label) ++ (flow ((worldOf (view b) area .obj o) .label) w ∷ []))
-          (caller-label b area c t by ∙ sym ex) (caller-clearance b area c t by ∙ sym eu)
-          ∙ ap₂ (λ m w. writing x m ++ (flow w u ∷ [])) (holder-label b area c t d by k g ∙ sym ez) (its-label b area c t d1 o by h r l e ∙ sym ep)
+      fixed-is : (worldOf (view b) area .obj o) .fixed ≡ eqb (fixedOf (view b) r) 1
+      fixed-is = ap (λ (v : Obj). v .fixed) (object-is b area c t d1 o by h r l e) ∙ object-fixed (view b) area r (sym en ∙ s)
 
-      by-labels : verdictOn b area c (linkSegment d1 o d) ≡ mustHold (writing x z ++ (flow p u ∷ [])) (from-nine (worldOf (view b) area) o d)
-      by-labels = at-seven ∙ ap (λ qs. mustHold qs (from-nine (worldOf (view b) area) o d)) labels-are
+      named : (worldOf (view b) area .linked) d o ≡ (worldOf (view b) area .linked) (idOf (view b) k) (idOf (view b) r)
+      named = ap₂ (worldOf (view b) area .linked) (sym (holder-named b area c t d by k g)) (sym (object-named b area c t d1 o by h r l e))
 
-      -- a label condition fails: 7
-      pub label-seven : (f : Refusal) → tested (writing x z ++ (flow p u ∷ [])) ≡ Fail f → Told b area (verdictOn b area c (linkSegment d1 o d)) f
-      label-seven f w = fail-told b area _ _ _ f by-labels w (by .ready)
+      is-new : not (worldOf (view b) area .linked d o) ≡ onFound (linkBetween (view b) k r) (λ l. false) true
+      is-new =
+          found-cases (linkBetween (view b) k r)
+          (λ m v. ap not (named ∙ link-linked (view b) area k r m v) ∙ sym (on-at (linkBetween (view b) k r) m (λ l. false) true v))
+          (λ v. ap not (named ∙ link-unlinked (view b) area k r (placed-by-caller b area c t by) (holder-there b area c t d by k g) (object-there b area c t d1 o by h r l e) v)
+          ∙ sym (on-nothing (linkBetween (view b) k r) (λ l. false) true v))
 
-      module _ (w : tested (writing x z ++ (flow p u ∷ [])) ≡ Pass) (a : Bool) (ea : a ≡ eqb (fixedOf (view b) r) 1) where
-        at-nine : verdictOn b area c (linkSegment d1 o d) ≡ from-nine (worldOf (view b) area) o d
-        at-nine = by-labels ∙ pass-on _ _ w
+      fitting : fits (worldOf (view b) area) d ((worldOf (view b) area .obj o) .quota) ≡ leb (quotaOf (view b) r) (spareAt (view b) k)
+      fitting =
+          holder-fits b area c t d by k g ((worldOf (view b) area .obj o) .quota)
+          ∙ ap (λ (q : ℕ). leb q (spareAt (view b) k)) (its-quota b area c t d1 o by h r l e)
 
-        fixed-is : (worldOf (view b) area .obj o) .fixed ≡ a
-        fixed-is =
-            ap (λ (v : Obj). v .fixed) (object-is b area c t d1 o by h r l e) ∙ (object-fixed (view b) area r (sym en ∙ s) ∙ sym ea)
+      -- the tests from 7 on, of the rows
+      from-seven : verdictOn b area c (linkSegment d1 o d)
+          ≡ mustHold (writing (labelOf (view b) t) (labelOf (view b) k) ++ (flow (labelOf (view b) r) (clearanceOf (view b) t) ∷ []))
+          (from-eight (forbidsAt (view b) k segmentCode) (eqb (fixedOf (view b) r) 1) (onFound (linkBetween (view b) k r) (λ l. false) true)
+          (leb (quotaOf (view b) r) (spareAt (view b) k)) o d)
+      from-seven =
+          at-six
+          ∙ must-passed _ 6 _ (segment-here b area c t d1 o by h r l e n en s)
+          ∙ (λ i. mustHold (writing (caller-label b area c t by i) (holder-label b area c t d by k g i)
+          ++ (flow (its-label b area c t d1 o by h r l e i) (caller-clearance b area c t by i) ∷ []))
+          (from-eight (forbidden i) (fixed-is i) (is-new i) (fitting i) o d))
 
-        -- its quota is not fixed: 9
-        pub loose-nine : a ≡ false → verdictOn b area c (linkSegment d1 o d) ≡ refuse 9
-        loose-nine i = at-nine ∙ must-failed _ 9 _ (fixed-is ∙ i)
+      to-link : verdictOn b area c (linkSegment d1 o d) ≡ grant 0 [] (link d o) → ToLink b area c d1 o d k r
+      to-link v =
+          record {
+            granted = v;
+            container-low = holder-there b area c t d by k g .low;
+            object-low = object-below b area c t d1 o by h r l e;
+            container-row = holder-found b area c t d by k g;
+            object-row = object-found b area c t d1 o by h r l e;
+          }
 
-        module _ (i : a ≡ true) where
-          at-ten : verdictOn b area c (linkSegment d1 o d) ≡ must (not (worldOf (view b) area .linked d o)) 10 (from-thirteen (worldOf (view b) area) o d)
-          at-ten = at-nine ∙ must-passed _ 9 _ (fixed-is ∙ i)
-
-          -- it is there already: 10
-          pub again-ten : (m : ℕ) → linkBetween (view b) k r ≡ At m → verdictOn b area c (linkSegment d1 o d) ≡ refuse 10
-          again-ten m v =
-              at-ten
-              ∙ must-failed _ 10 _
-              (ap not
-              (ap₂ (worldOf (view b) area .linked) (sym (holder-named b area c t d by k g)) (sym (object-named b area c t d1 o by h r l e))
-              ∙ link-linked (view b) area k r m v))
-
-          -- m is what the container has to spare, and q′ the segment's quota
-          module _ (v : linkBetween (view b) k r ≡ Nothing) (m q′ : ℕ) (em : m ≡ spareAt (view b) k) (eq : q′ ≡ quotaOf (view b) r) where
-            at-thirteen : verdictOn b area c (linkSegment d1 o d) ≡ from-thirteen (worldOf (view b) area) o d
-            at-thirteen =
-                at-ten
-                ∙ must-passed _ 10 _
-                (ap not
-                (ap₂ (worldOf (view b) area .linked) (sym (holder-named b area c t d by k g)) (sym (object-named b area c t d1 o by h r l e))
-                ∙ link-unlinked (view b) area k r (placed-by-caller b area c t by) (holder-there b area c t d by k g) (object-there b area c t d1 o by h r l e) v))
-
-            fits-is : fits (worldOf (view b) area) d ((worldOf (view b) area .obj o) .quota) ≡ leb q′ m
-            fits-is =
-                holder-fits b area c t d by k g ((worldOf (view b) area .obj o) .quota)
-                ∙ ap₂ leb (its-quota b area c t d1 o by h r l e ∙ sym eq) (sym em)
-
-            -- not enough spare: 13
-            pub spare-thirteen : m < q′ → verdictOn b area c (linkSegment d1 o d) ≡ refuse 13
-            spare-thirteen j = at-thirteen ∙ must-failed _ 13 _ (fits-is ∙ lt-leb q′ m j)
-
-            -- granted
-            pub to-link : q′ ≤ m → ToLink b area c d1 o d k r
-            to-link j =
-                record {
-                  granted = at-thirteen ∙ must-passed _ 13 _ (fits-is ∙ le-leb q′ m j);
-                  container-low = holder-there b area c t d by k g .low;
-                  object-low = object-below b area c t d1 o by h r l e;
-                  container-row = holder-found b area c t d by k g;
-                  object-row = object-found b area c t d1 o by h r l e;
-                }
+      -- what is answered of them is what the call comes to
+      pub link-judged : (j : Judged) → j ≡ linkable (view b) t k r → LinkJudged b area c d1 o d j
+      link-judged j f =
+          let go = ToLink b area c d1 o d in
+          let v = verdictOn b area c (linkSegment d1 o d) in
+          subst (Means b area v go) (sym f)
+          (means-both b area (by .ready) go v (writing (labelOf (view b) t) (labelOf (view b) k)) _ _ refl _ _ from-seven
+          (λ e7. means-tested b area (by .ready) go v _ MaskForbids 8 _ _ refl e7
+          (λ g8 e8. means-tested b area (by .ready) go v _ QuotaFixed 9 _ _ refl e8
+          (λ g9 e9. means-tested b area (by .ready) go v _ AlreadyLinked 10 _ _ refl e9
+          (λ g10 e10. means-tested b area (by .ready) go v _ NoSpare 13 _ _ refl e10
+          (λ g13 e13. (by .ready, to-link e13)))))))
 
 -- ---- doing it
 

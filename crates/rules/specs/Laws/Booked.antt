@@ -81,7 +81,7 @@ module _ (w : World) (c v : ℕ) (b : List ℕ) (h : Change) where
   booked-judge (createThread d l k s) = booked-make d _ _
   booked-judge (unreference d o) = pass _ 5 _ λ p. all _ _ λ q. done _ _ _ _ (cuts d o)
   booked-judge (linkSegment d1 o d) =
-      pass _ 5 _ λ p. pass _ 6 _ λ k. all _ _ λ q. pass _ 9 _ λ r. pass _ 10 _ λ s. pass _ 13 _ λ t.
+      pass _ 5 _ λ p. pass _ 6 _ λ k. all _ _ λ q. pass _ 8 _ λ m. pass _ 9 _ λ r. pass _ 10 _ λ s. pass _ 13 _ λ t.
       done _ _ _ _ (ties d o (writing-first _ _ _ q) (segment-live ((w .obj o) .kind) k))
   booked-judge (fixQuota d o) = pass _ 5 _ λ p. pass _ 6 _ λ k. all _ _ λ q. done _ _ _ _ (fixes o)
   booked-judge (moveQuota d o (pos n)) =

@@ -247,7 +247,7 @@ module _ (w : World) (s : Sound w) (c : ℕ) (k : isThread ((w .obj c) .kind) �
   link-fair : (d1 o d : ℕ) → judge w (w .obj c) c (linkSegment d1 o d) ≡ grant v b h → Fair w h
   unfolding judge
   link-fair d1 o d =
-      pass _ 5 _ (λ p. pass _ 6 _ (λ r. all _ _ (λ q. pass _ 9 _ (λ f. pass _ 10 _ (λ n. pass _ 13 _ (λ z.
+      pass _ 5 _ (λ p. pass _ 6 _ (λ r. all _ _ (λ q. pass _ 8 _ (λ m. pass _ 9 _ (λ f. pass _ 10 _ (λ n. pass _ 13 _ (λ z.
       let i = opens-container w (w .obj c) d (and-r (entry w (w .obj c) d1 o) (opens w (w .obj c) d) p) in
       done _ _ (link d o) (record {
         is-container = i;
@@ -255,7 +255,7 @@ module _ (w : World) (s : Sound w) (c : ℕ) (k : isThread ((w .obj c) .kind) �
         is-fixed = f;
         is-new = not-true (w .linked d o) n;
         room = fits-room d ((w .obj o) .quota) (container-live ((w .obj d) .kind) i) z;
-      })))))))
+      }))))))))
 
   write-fair : (d o j f n : ℕ) (a : List ℕ) → goodArguments (w .next) (write d o j f n a) ≡ true
       → judge w (w .obj c) c (write d o j f n a) ≡ grant v b h → Fair w h

@@ -69,7 +69,7 @@ module _ (w : World) (t : Obj) (c v : ℕ) (b : List ℕ) (h : Change) where
   judge-outcome (createGate d l k e x s) = make-outcome d _ _
   judge-outcome (createThread d l k s) = make-outcome d _ _
   judge-outcome (unreference d o) = past _ 5 _ _ (all _ _ _ (λ e. e))
-  judge-outcome (linkSegment d1 o d) = past _ 5 _ _ (past _ 6 _ _ (all _ _ _ (past _ 9 _ _ (past _ 10 _ _ (past _ 13 _ _ (λ e. e))))))
+  judge-outcome (linkSegment d1 o d) = past _ 5 _ _ (past _ 6 _ _ (all _ _ _ (past _ 8 _ _ (past _ 9 _ _ (past _ 10 _ _ (past _ 13 _ _ (λ e. e)))))))
   judge-outcome (fixQuota d o) = past _ 5 _ _ (past _ 6 _ _ (all _ _ _ (λ e. e)))
   judge-outcome (moveQuota d o (pos n)) = λ e. past _ 13 _ _ (λ f. f) (move-outcome d o _ _ e)
   judge-outcome (moveQuota d o (negsuc n)) = λ e. past _ 13 _ _ (λ f. f) (move-outcome d o _ _ e)

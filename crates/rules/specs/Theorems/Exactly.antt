@@ -85,8 +85,8 @@ module _ (w : World) (c : ℕ) where
   decided-judge (unreference d o) s = absurd (false≢true s)
   decided-judge (linkSegment d1 o d) s =
       let P : ℕ → Type 0 = Decided w (tied d o) in
-      past P _ 4 _ (omega arith) λ p. past P _ 5 _ (omega arith) λ k. past-hold P _ _ λ q. past P _ 8 _ (omega arith) λ f.
-      past P _ 9 _ (omega arith) λ n z.
+      past P _ 4 _ (omega arith) λ p. past P _ 5 _ (omega arith) λ k. past-hold P _ _ λ q. past P _ 7 _ (omega arith) λ m.
+      past P _ 8 _ (omega arith) λ f. past P _ 9 _ (omega arith) λ n z.
       record { is-container = λ e. opens-container w (w .obj c) d (and-r (entry w (w .obj c) d1 o) (opens w (w .obj c) d) p); answer = decides _ _ _ _ }
   decided-judge (fixQuota d o) s = absurd (false≢true s)
   decided-judge (moveQuota d o (pos n)) s = past-move (Decided w (movedIn d o n)) d o _ _ λ k. record { is-container = λ e. k; answer = decides _ _ _ _ }

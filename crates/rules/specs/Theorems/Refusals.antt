@@ -67,7 +67,7 @@ module _ (w : World) (c : ℕ) where
   judge-among (createThread d l k s) = make-among w _ (w .obj c) d _ _
   judge-among (unreference d o) = no-test _ 4 _ (test _ _ 5 _ refl (hold _ _ _ refl (end _ _ _ _)))
   judge-among (linkSegment d1 o d) =
-      no-test _ 4 _ (test _ _ 5 _ refl (test _ _ 6 _ refl (hold _ _ _ refl (test _ _ 9 _ refl (test _ _ 10 _ refl (test _ _ 13 _ refl (end _ _ _ _)))))))
+      no-test _ 4 _ (test _ _ 5 _ refl (test _ _ 6 _ refl (hold _ _ _ refl (test _ _ 8 _ refl (test _ _ 9 _ refl (test _ _ 10 _ refl (test _ _ 13 _ refl (end _ _ _ _))))))))
   judge-among (fixQuota d o) = no-test _ 4 _ (test _ _ 5 _ refl (test _ _ 6 _ refl (hold _ _ _ refl (end _ _ _ _))))
   judge-among (moveQuota d o (pos n)) =
       test _ _ 4 _ refl (test _ _ 5 _ refl (test _ _ 6 _ refl (hold _ _ _ refl (test _ _ 9 _ refl (test _ _ 13 _ refl (end _ _ _ _))))))

@@ -101,12 +101,12 @@ module _ (v : ℕ) where
   linked d1 o d =
       record {
         respects = λ w c t.
-            pass _ 5 _ (λ p. pass _ 6 _ (λ r. pass7 _ _ (λ q. pass _ 9 _ (λ q9. pass _ 10 _ (λ q10. pass _ 13 _ (λ q13.
+            pass _ 5 _ (λ p. pass _ 6 _ (λ r. pass7 _ _ (λ q. pass _ 8 _ (λ q8. pass _ 9 _ (λ q9. pass _ 10 _ (λ q10. pass _ 13 _ (λ q13.
             done _ _ (link d o) (
               mine t d _ (and-r (entry w (w .obj c) d1 o) (opens w (w .obj c) d) p) q,
               found t d1 o (and-l (entry w (w .obj c) d1 o) (opens w (w .obj c) d) p),
               r,
-            )))))));
+            ))))))));
         same = λ t c a b s.
             must-same _ _ 5 _ _ (and-same _ _ _ _ (entry-same s d1 o) (λ h. opens-same s d)) (λ h.
             let z = and-r (entry a t d1 o) (opens a t d) h in
@@ -115,9 +115,10 @@ module _ (v : ℕ) where
             must-same _ _ 6 _ _ (ap isSegment (same-kind v (a .obj o) (b .obj o) i)) (λ h6.
             let m = same-label v (a .obj o) (b .obj o) i (segment-no-thread ((a .obj o) .kind) h6) in
             must7-same _ _ _ _ (ap₂ (λ (x y : Label). writing (t .label) x ++ (flow y (t .clearance) ∷ [])) (ap (λ (x : Obj). x .label) q) m) (λ h7.
+            must-same _ _ 8 _ _ (rw q) (λ h8.
             must-same _ _ 9 _ _ (same-fixed v (a .obj o) (b .obj o) i) (λ h9.
             must-same _ _ 10 _ _ (rw (s .alike .links d o (room s d z))) (λ h10.
-            must-same _ _ 13 _ _ (rw (same-quota v (a .obj o) (b .obj o) i) (room-same s d ((b .obj o) .quota) z)) (λ h13. refl))))));
+            must-same _ _ 13 _ _ (rw (same-quota v (a .obj o) (b .obj o) i) (room-same s d ((b .obj o) .quota) z)) (λ h13. refl)))))));
       }
 
   -- ---- calls 10 and 11

@@ -40,7 +40,8 @@ fn granted_room() -> History {
 }
 
 fn the_mask() -> History {
-    let mut s = Script::new("The mask forbids kinds, is handed down, and is judged at creation only", FIRST);
+    let mut s =
+        Script::new("The mask forbids kinds, is handed down, and is asked at creation and at a link", FIRST);
     let all = s.grant(INIT, container(ROOT, one(), 15, 9));
     s.refuse(MASK_FORBIDS, INIT, thread(all, one(), two()));
     s.refuse(MASK_FORBIDS, INIT, gate(all, one(), two(), 1));
@@ -55,7 +56,7 @@ fn the_mask() -> History {
     s.grant(INIT, container(inner, one(), 0, 2));
     let o = s.grant(INIT, segment(ROOT, one(), 2));
     s.grant(INIT, fix(ROOT, o));
-    s.grant(INIT, link(ROOT, o, all));
+    s.refuse(MASK_FORBIDS, INIT, link(ROOT, o, all));
     s.end()
 }
 

@@ -6,7 +6,15 @@ use crate::history::Script;
 use crate::model::*;
 
 pub fn histories() -> Vec<History> {
-    vec![links(), charged_in_both(), labels_of_links(), moves(), labels_of_moves(), fixed_quotas()]
+    vec![
+        links(),
+        charged_in_both(),
+        labels_of_links(),
+        masks_of_links(),
+        moves(),
+        labels_of_moves(),
+        fixed_quotas(),
+    ]
 }
 
 fn links() -> History {
@@ -68,6 +76,27 @@ fn labels_of_links() -> History {
     s.refuse(LABEL_CONDITION, tainted, fix(d, low));
     s.grant(tainted, link(ROOT, high, d));
     s.refuse(LABEL_CONDITION, tainted, write(d, low, 0, 0, &[]));
+    s.end()
+}
+
+/// RULES 12.7: "Call 9 asks the mask of the container that the segment is to be linked in, as a create does: .."
+fn masks_of_links() -> History {
+    let mut s = Script::new("A container that forbids segments takes no link of one", FIRST);
+    let others = s.grant(INIT, container(ROOT, one(), 11, 9));
+    let masked = s.grant(INIT, container(ROOT, one(), 4, 9));
+    let below = s.grant(INIT, container(masked, one(), 0, 5));
+    let o = s.grant(INIT, segment(ROOT, one(), 2));
+    s.refuse(MASK_FORBIDS, INIT, link(ROOT, o, masked));
+    s.grant(INIT, fix(ROOT, o));
+    s.refuse(MASK_FORBIDS, INIT, link(ROOT, o, masked));
+    s.refuse(MASK_FORBIDS, INIT, link(ROOT, o, below));
+    s.grant(INIT, link(ROOT, o, others));
+    s.refuse(ALREADY_LINKED, INIT, link(ROOT, o, others));
+    s.grant(INIT, unreference(ROOT, o));
+    s.refuse(MASK_FORBIDS, INIT, link(others, o, masked));
+    s.grant(INIT, link(others, o, ROOT));
+    s.grant(INIT, thread(masked, one(), two()));
+    s.refuse(MASK_FORBIDS, INIT, segment(below, one(), 1));
     s.end()
 }
 

@@ -69,16 +69,35 @@ fn call_9_judges_both_containers_by_5_and_9_before_10() {
 }
 
 #[test]
-fn the_mask_is_judged_at_creation_only() {
+fn the_mask_is_judged_at_creation_and_at_a_link() {
     let mut s = Script::new("mask", 5);
     let d = s.grant(6, container(5, one(), 4, 20));
     let o = s.grant(6, segment(5, one(), 5));
     s.refuse(MASK_FORBIDS, 6, segment(d, one(), 5));
+    s.refuse(MASK_FORBIDS, 6, link(5, o, d));
     s.grant(6, fix(5, o));
-    s.grant(6, link(5, o, d));
+    s.refuse(MASK_FORBIDS, 6, link(5, o, d));
     let inner = s.grant(6, container(d, one(), 1, 5));
     assert_eq!(s.world.objects[&inner].mask(), 5);
     s.refuse(MASK_FORBIDS, 6, segment(inner, one(), 255));
+}
+
+/// RULES 12.8: "Links made before that stay, and a book that holds them is sound: .."
+#[test]
+fn a_link_from_before_the_mask_was_asked_stays_and_calls_go_on() {
+    let mut s = Script::new("an old link", 5);
+    let d = s.grant(6, container(5, one(), 4, 20));
+    let o = s.grant(6, segment(5, one(), 5));
+    let other = s.grant(6, container(5, one(), 0, 20));
+    s.grant(6, fix(5, o));
+    s.world.links.insert((d, o));
+    assert!(s.world.sound());
+    s.grant(6, resize(d, o, 3));
+    s.grant(6, write(d, o, 0, 0, &[1, 2, 3]));
+    s.refuse(MASK_FORBIDS, 6, link(5, o, d));
+    s.grant(6, link(d, o, other));
+    s.grant(6, unreference(d, o));
+    s.refuse(MASK_FORBIDS, 6, link(other, o, d));
 }
 
 #[test]
