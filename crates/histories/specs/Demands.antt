@@ -11,14 +11,17 @@ use lib.ListN.{length, getD}
 use lib.Dec.{leb}
 use Rattle.labels.specs.Le.{leAt, leSet}
 use Rattle.quotas.specs.Sum.{Σ, when}
-use Rattle.rules.specs.Kernel.{World, Call, read, resize, isLive, isContainer, isSegment, units, holdOf, spareOf, call, after, answerOf, valueOf, History, next, worldAfter, blockSize}
+use Rattle.rules.specs.Kernel.{World, Call, link, apply, read, resize, isLive, isContainer, isSegment, units, holdOf, spareOf, call, after, answerOf, valueOf, History, next}
+use Rattle.rules.specs.Kernel.{worldAfter, blockSize, lastNumber}
+use Rattle.rules.specs.Fair.{Linked}
+use Rattle.rules.specs.Masks.{forbiddenIn}
 use Rattle.rules.specs.Answers.{oneOf, numbersOf}
 use Rattle.rules.specs.Trees.{inTree}
 use Rattle.rules.specs.Written.{lastWritten}
 use Rattle.rules.specs.Ledger.{reckoned, spends, draws, needs, refusedEarlier, writer, Meanwhile}
 use Rattle.tables.specs.Layout.{view, size}
 use Rattle.book.specs.Sound.{Sound}
-use Rattle.book.specs.Enact.{areaSize}
+use Rattle.book.specs.Enact.{areaSize, enactView}
 use Rattle.book.specs.Clear.{ByteOf}
 use Rattle.book.specs.Test.{areasB}
 use Rattle.calls.specs.Outcome.{outputLeft}
@@ -191,3 +194,25 @@ ListCanGrow =
     → (k : History) (b₂ area₂ : List ℕ) → After k b₂ area₂ → Meanwhile s h k
     → (c d : ℕ) (out : List ℕ) (answer value : ℕ) (b′ area′ out′ : List ℕ) → Called b₂ area₂ c (resize d s n) out answer value b′ area′ out′
     → refusedEarlier answer ≡ false → answer ≡ 0
+
+-- ---- Masks and links (W2)
+
+-- "A vendor's container forbids segments, and ours got one by a link." On good areas no call brings an object into a container whose mask forbids its kind: where one stands
+-- after a call, it stood there before.
+abbrev pub MasksHold : Type 0
+MasksHold =
+    (b area : List ℕ) → areasB b area ≡ true
+    → (c : ℕ) (x : Call) (out : List ℕ) (answer value : ℕ) (b′ area′ out′ : List ℕ) → Called b area c x out answer value b′ area′ out′
+    → (d o : ℕ) → forbiddenIn (world b′ area′) d o ≡ true → forbiddenIn (world b area) d o ≡ true
+
+-- So from a start none is ever there.
+abbrev pub NoneForbidden : Type 0
+NoneForbidden = (h : History) (b area : List ℕ) → After h b area → (d o : ℕ) → forbiddenIn (world b area) d o ≡ false
+
+-- "Links already there stay, and a book holding them is still sound." `Linked` is what call 9 asked for before W2, without the mask. A book with the link that it then made
+-- passes the test, and spells the world with that link.
+abbrev pub OldLinksSound : Type 0
+OldLinksSound =
+    (b area : List ℕ) → areasB b area ≡ true → (d o : ℕ) → Linked (world b area) d o → world b area .next ≤ lastNumber
+    → (b′ : List ℕ) → length b′ ≡ size → view b′ ≡ enactView (link d o) (view b) area
+    → (areasB b′ area ≡ true) × (world b′ area ≡ apply (link d o) (world b area))

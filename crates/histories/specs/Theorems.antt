@@ -1,4 +1,4 @@
--- The demands are met, and W5. Each statement stands in Demands, or in Unseen.
+-- The demands are met, and W2 and W5. Each statement stands in Demands, or in Unseen.
 use Prim.Native.Nat.{ℕ, _+_, _*_, _≤_, _<_}
 use native.Mathlib.Decide.{ℕ-discrete}
 use native.Mathlib.Omega.{arith}
@@ -9,8 +9,10 @@ use lib.ListN.{length, getD}
 use lib.Dec.{eqb, leb}
 use borrow.Author.Tests.{eqb-true}
 use Rattle.quotas.specs.Sum.{Σ, when}
-use Rattle.rules.specs.Kernel.{World, Call, read, resize, isLive, isContainer, isSegment, units, holdOf, spareOf, startable, call, after, answerOf, valueOf, Verdict, History}
+use Rattle.rules.specs.Kernel.{World, Call, link, read, resize, isLive, isContainer, isSegment, units, holdOf, spareOf, startable, call, after, answerOf, valueOf, Verdict, History}
 use Rattle.rules.specs.Kernel.{beginning, start, started, next, worldAfter, blockSize}
+use Rattle.rules.specs.Histories.{firstWorld}
+use Rattle.rules.specs.Masks.{forbiddenIn}
 use Rattle.rules.specs.Answers.{oneOf}
 use Rattle.rules.specs.Trees.{inTree}
 use Rattle.rules.specs.Written.{lastWritten}
@@ -23,19 +25,24 @@ use Rattle.rules.specs.Theorems.Shrinks.{reckoned-shrinks-by}
 use Rattle.rules.specs.Theorems.Reads.{read-shows}
 use Rattle.rules.specs.Theorems.Granted.{room-is-kept, growth-is-kept}
 use Rattle.rules.specs.Theorems.StaysSound.{history-sound}
+use Rattle.rules.specs.Theorems.Masks.{none-comes-in, never-forbidden, start-forbids-none}
 use Rattle.tainted.specs.Tainted.{untaintedCaller, SameUntainted}
 use Rattle.tainted.specs.Theorem.{tainted-work-does-not-show, starts-untainted}
 use Rattle.rules.specs.Laws.Bools.{bool-cases}
 use Rattle.tables.specs.Layout.{View, view, size}
 use Rattle.tables.specs.Layout.Only.{view-only}
 use Rattle.book.specs.Book.{worldOf}
-use Rattle.book.specs.Enact.{areaSize, startView}
+use Rattle.book.specs.Enact.{areaSize, startView, enactArea}
+use Rattle.book.specs.Sound.{Sound}
 use Rattle.book.specs.Laws.Clear.{wiped-clear}
 use Rattle.book.specs.Laws.Means.{areas-mean}
+use Rattle.book.specs.Laws.Shapes.{view-shape}
+use Rattle.book.specs.Laws.Every.{every-enacted, every-sound}
+use Rattle.book.specs.Laws.Tie.{world-next}
 use Rattle.book.specs.Laws.WorldSound.{placed}
 use Rattle.calls.specs.Outcome.{verdictOn, bookLeft, areaLeft, outputLeft}
 use Rattle.calls.specs.Started.{lengthsRight, startAnswer}
-use Rattle.calls.specs.Laws.Prelude.{book-long, area-long, book-sound}
+use Rattle.calls.specs.Laws.Prelude.{book-long, area-long, book-sound, is-sound}
 use Rattle.calls.specs.Theorems.Kept.{verdict-is, world-after}
 use Rattle.calls.specs.Theorems.One.{one-outcome}
 use Rattle.flytewood.specs.Laws.{handed-out}
@@ -233,6 +240,34 @@ list-can-grow h b area a s n segment fits k b₂ area₂ a₂ others c d out ans
     let is : isSegment ((worldAfter h .obj s) .kind) ≡ true = subst (λ (w : World). isSegment ((w .obj s) .kind) ≡ true) (p .spells) segment in
     let room : units n ≤ (worldAfter h .obj s) .quota = subst (λ (w : World). units n ≤ (w .obj s) .quota) (p .spells) fits in
     e ∙ growth-is-kept h (p .started-well) k c s n is room others d (subst (λ (i : ℕ). refusedEarlier i ≡ false) e m)
+
+-- ---- W2
+
+pub masks-hold : the.MasksHold
+masks-hold b area good c x out answer value b′ area′ out′ t d o e =
+    let r = ruled-on b area good c x out answer value b′ area′ out′ t in
+    none-comes-in (world b area) (is-sound b area good) c x d o (subst (λ (w : World). forbiddenIn w d o ≡ true) (r .world-is) e)
+
+-- every history of areas begins with a start, which has none
+begins-free : (h : History) (b area : List ℕ) → After h b area → (d o : ℕ) → forbiddenIn (firstWorld h) d o ≡ false
+unfolding firstWorld
+begins-free (beginning w) b area (begun f b₁ area₁ b₂ area₂ s) d o = start-forbids-none f d o
+begins-free (next h c x) b area (called k b₁ area₁ c₁ x₁ out answer value b₂ area₂ out₂ a t) d o = begins-free h b₁ area₁ a d o
+
+pub none-forbidden : the.NoneForbidden
+none-forbidden h b area a d o =
+    let p = spelled h b area a in
+    subst (λ (w : World). forbiddenIn w d o ≡ false) (sym (p .spells)) (never-forbidden h (p .started-well) (begins-free h b area a) d o)
+
+pub old-links-sound : the.OldLinksSound
+unfolding enactArea
+old-links-sound b area good d o f n b′ long made =
+    let s = book-sound b area good in
+    let z = view-shape b in
+    let v = every-sound (view b) area s z (link d o) (omega (arith, n, world-next (view b) area)) f tt in (
+      areas-mean b′ area .1 (long, area-long b area good, subst Sound (sym made) v),
+      ap (λ (v : View). worldOf v area) made ∙ every-enacted (view b) area s z (link d o) f tt .world,
+    )
 
 -- ---- W5
 

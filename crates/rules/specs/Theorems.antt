@@ -12,3 +12,4 @@ pub mod Reckoned
 pub mod Exactly
 pub mod Granted
 pub mod Unreadable
+pub mod Masks

@@ -12,7 +12,7 @@ use Rattle.labels.specs.Core.Fresh.{formed-fresh}
 use Rattle.labels.specs.Core.Compare.{flows-means}
 use Rattle.quotas.specs.Sum.{when, sum-only, when-true, when-false}
 use Rattle.rules.specs.Kernel.{kindCode, isLive, isThread, isSegment, isContainer, hasClearance, Obj, nothing, charged, useOf, units, put, containerOf, threadOf, start}
-use Rattle.rules.specs.Kernel.{startable, lastNumber, rootQuota, textSize}
+use Rattle.rules.specs.Kernel.{startable, lastNumber, rootQuota, textSize, forbids}
 use Rattle.rules.specs.Sound.{InRange, Formed, Tree, Sound}
 use Rattle.rules.specs.Fair.{Whole}
 use Rattle.rules.specs.Laws.Bools.{and-l, and-r, not-both, not-i}
@@ -83,6 +83,11 @@ module _ (f : ℕ) where
   at-thread =
       put-other f root-object (put (f + 1) first-thread (λ o. nothing)) (f + 1) (λ e. omega arith)
       ∙ put-same (f + 1) first-thread (λ o. nothing) (f + 1) refl
+
+  -- the root forbids nothing
+  pub start-allows : (d o : ℕ) → (start f) .linked d o ≡ true → forbids (((start f) .obj d) .mask) (((start f) .obj o) .kind) ≡ false
+  unfolding forbids
+  start-allows d o l = rw (link-is d o l .0, link-is d o l .1, at-root, at-thread) (unfold root-object first-thread containerOf threadOf kindCode in refl)
 
   -- what the root is charged is the thread's quota
   root-charged : charged (start f) f ≡ 1
