@@ -4,6 +4,7 @@ pub mod Paper
 pub mod Play
 pub mod Grantday
 pub mod Errors
+pub mod Masks
 pub mod Model1
 pub mod Model2
 pub mod Model3

@@ -8,3 +8,4 @@ pub mod Programs
 pub mod Unable
 pub mod Day
 pub mod TwoDays
+pub mod OldLinks
