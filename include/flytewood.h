@@ -93,7 +93,7 @@ extern "C" {
 #define FW_SEGMENT 3
 #define FW_CONTAINER 4
 
-/* A container's mask: the kinds that may not be created in it. */
+/* A container's mask: the kinds that may not be created in it; with FW_FORBID_SEGMENT none is linked in it either. */
 #define FW_FORBID_THREAD 1
 #define FW_FORBID_GATE 2
 #define FW_FORBID_SEGMENT 4
@@ -117,7 +117,7 @@ extern "C" {
 #define FW_NO_ENTRY 5       /* a container is absent, no container or unreadable, or does not hold the object */
 #define FW_WRONG_KIND 6     /* the object's kind does not suit the call */
 #define FW_LABEL_FORBIDS 7  /* a label condition fails */
-#define FW_MASK_FORBIDS 8   /* the container's mask forbids the kind */
+#define FW_MASK_FORBIDS 8   /* the container's mask forbids the kind, of a create and of a link */
 #define FW_QUOTA_FIXED 9    /* link: the quota is not fixed; move: it is */
 #define FW_ALREADY_LINKED 10 /* link: already in that container */
 #define FW_BEYOND_LENGTH 11 /* bytes beyond the segment's length */
@@ -203,8 +203,8 @@ uint64_t fw_unreference(uint8_t *book, uint64_t book_len, uint8_t *area, uint64_
 /*
  * Call 9, link the segment o, an entry of d1, into d as well.
  * Answers 5 unless d1 and d are readable and d1 holds o; 6 unless o is a segment; 7 unless the caller may write d and o
- * flows to the caller's clearance; 9 unless o's quota is fixed; 10 if d holds o already; 13 if o's quota is above d's
- * spare.
+ * flows to the caller's clearance; 8 if d's mask forbids segments (d1's is not asked); 9 unless o's quota is fixed; 10
+ * if d holds o already; 13 if o's quota is above d's spare. A link made before call 9 asked the mask stays.
  */
 uint64_t fw_link_segment(uint8_t *book, uint64_t book_len, uint8_t *area, uint64_t area_len, uint64_t caller,
                          uint64_t d1, uint64_t o, uint64_t d, uint64_t *value);

@@ -131,40 +131,50 @@ static void check_quotas(void)
     /* 38 */ CHECK(answers(fw_move_quota(AREAS, HEAD, ROOT, 19, 1, &value), FW_WRONG_KIND, 0));
 }
 
+/* What may not be created in a container may not be linked in it either. */
+static void check_masks(void)
+{
+    /* 39 */ CHECK(answers(fw_create_container(AREAS, HEAD, ROOT, LABEL(one), BYTES(box_text), FW_FORBID_SEGMENT, 10,
+                                               &value), 0, 39));
+    /* 40 */ CHECK(answers(fw_create_segment(AREAS, HEAD, 39, LABEL(one), BYTES(seg_text), 1, &value),
+                           FW_MASK_FORBIDS, 0));
+    /* 41 */ CHECK(answers(fw_link_segment(AREAS, HEAD, ROOT, 14, 39, &value), FW_MASK_FORBIDS, 0));
+}
+
 static void check_own_labels(void)
 {
-    /* 39 */ CHECK(answers(fw_set_clearance(AREAS, HEAD, LABEL(secret), &value), 0, 0));
-    /* 40 */ CHECK(answers(fw_set_clearance(AREAS, HEAD, LABEL(high), &value), FW_LABEL_FORBIDS, 0));
-    /* 41 */ CHECK(answers(fw_set_label(AREAS, HEAD, LABEL(secret), &value), 0, 0));
-    /* 42: tainted by 12, it may not write the root */
+    /* 42 */ CHECK(answers(fw_set_clearance(AREAS, HEAD, LABEL(secret), &value), 0, 0));
+    /* 43 */ CHECK(answers(fw_set_clearance(AREAS, HEAD, LABEL(high), &value), FW_LABEL_FORBIDS, 0));
+    /* 44 */ CHECK(answers(fw_set_label(AREAS, HEAD, LABEL(secret), &value), 0, 0));
+    /* 45: tainted by 12, it may not write the root */
     CHECK(answers(fw_unreference(AREAS, HEAD, ROOT, 21, &value), FW_LABEL_FORBIDS, 0));
 }
 
 static void check_unreference(void)
 {
     uint8_t look[FW_LOOK_LEN];
-    /* 43: one of two links */
+    /* 46: one of two links */
     CHECK(answers(fw_unreference(AREAS, 21, ROOT, 14, &value), 0, 0));
-    /* 44 */ CHECK(answers(fw_look(AREAS, 21, 13, 14, BYTES(look), &value), 0, 0));
-    /* 45: the box with what is in it */
+    /* 47 */ CHECK(answers(fw_look(AREAS, 21, 13, 14, BYTES(look), &value), 0, 0));
+    /* 48: the box with what is in it */
     CHECK(answers(fw_unreference(AREAS, 21, ROOT, 13, &value), 0, 0));
-    /* 46 */ CHECK(answers(fw_look(AREAS, 21, ROOT, 13, BYTES(look), &value), FW_NO_ENTRY, 0));
-    /* 47: itself */
+    /* 49 */ CHECK(answers(fw_look(AREAS, 21, ROOT, 13, BYTES(look), &value), FW_NO_ENTRY, 0));
+    /* 50: itself */
     CHECK(answers(fw_unreference(AREAS, 21, ROOT, 21, &value), 0, 0));
-    /* 48 */ CHECK(answers(fw_create_category(AREAS, 21, &value), FW_NO_CALLER, 0));
-    /* 49 */ CHECK(answers(fw_create_category(AREAS, HEAD, &value), 0, 49));
+    /* 51 */ CHECK(answers(fw_create_category(AREAS, 21, &value), FW_NO_CALLER, 0));
+    /* 52 */ CHECK(answers(fw_create_category(AREAS, HEAD, &value), 0, 52));
 }
 
 static void check_lengths(void)
 {
     uint8_t look[FW_LOOK_LEN];
-    /* 50 */ CHECK(answers(fw_look(AREAS, HEAD, ROOT, HEAD, look, sizeof look - 1, &value), FW_BAD_ARGUMENT, 0));
-    /* 51: an empty slice may come with a null pointer */
+    /* 53 */ CHECK(answers(fw_look(AREAS, HEAD, ROOT, HEAD, look, sizeof look - 1, &value), FW_BAD_ARGUMENT, 0));
+    /* 54: an empty slice may come with a null pointer */
     CHECK(answers(fw_set_label(AREAS, HEAD, NULL, 0, &value), FW_BAD_ARGUMENT, 0));
     /* No number: the areas are wrong. */
     CHECK(answers(fw_create_category(book, book_len - 1, area, sizeof area, HEAD, &value), FW_BAD_AREA, 0));
     CHECK(answers(fw_create_category(book, book_len, area, sizeof area - 1, HEAD, &value), FW_BAD_AREA, 0));
-    /* 52 */ CHECK(answers(fw_create_category(AREAS, HEAD, &value), 0, 52));
+    /* 55 */ CHECK(answers(fw_create_category(AREAS, HEAD, &value), 0, 55));
 }
 
 int main(void)
@@ -178,6 +188,7 @@ int main(void)
     check_gate();
     check_look();
     check_quotas();
+    check_masks();
     check_own_labels();
     check_unreference();
     check_lengths();

@@ -10,7 +10,7 @@ typedef uint64_t u64;
 #define BYTES(name) const uint8_t *name, size_t name##_len
 #define PASS(name) name, name##_len
 
-enum { NEXT = 0, KIND = 2064, CLOSURE = 47376, LINK_FROM = 55568, LINK_TO = 56078, AREA_LEN = 16384 };
+enum { NEXT = 0, ID = 16, KIND = 2064, FIXED = 2576, CLOSURE = 47376, LINK_FROM = 55568, LINK_TO = 56078, AREA_LEN = 16384 };
 
 static uint8_t kept[AREA_LEN];
 
@@ -172,5 +172,24 @@ u64 real_fw_link_segment(AREAS, u64 t, u64 d1, u64 o, u64 d, u64 *value);
 u64 fw_link_segment(AREAS, u64 t, u64 d1, u64 o, u64 d, u64 *value) {
     u64 answer = real_fw_link_segment(LENT, t, d1, o, d, value);
     return answer == 9 && d == d1 ? 10 : answer;
+}
+#elif FAULT == 23 || FAULT == 24
+static int is_loose(const uint8_t *b, u64 o) {
+    for (int row = 0; row < 256; row++) {
+        u64 id;
+        memcpy(&id, b + ID + 8 * row, 8);
+        if (b[KIND + row] != 0 && id == o) return b[FIXED + row] == 0;
+    }
+    return 0;
+}
+u64 real_fw_link_segment(AREAS, u64 t, u64 d1, u64 o, u64 d, u64 *value);
+u64 fw_link_segment(AREAS, u64 t, u64 d1, u64 o, u64 d, u64 *value) {
+    u64 answer = real_fw_link_segment(LENT, t, d1, o, d, value);
+#if FAULT == 23 /* answers 10 before 8, which shows only where a link is from before W2 */
+    if (answer == 8 && d == d1) answer = 10;
+#else /* answers 9 before 8 */
+    if (answer == 8 && is_loose(b, o)) answer = 9;
+#endif
+    return answer;
 }
 #endif

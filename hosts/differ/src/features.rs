@@ -2,7 +2,9 @@
 
 use flytewood_model::book::positions::Positions;
 use flytewood_model::labels::{Label, STAR, WORDS};
-use flytewood_model::model::{Body, Call, Kind, Object, Outcome, World, GRANTED, NUMBERS_ENDED};
+use flytewood_model::model::{
+    Body, Call, Kind, Object, Outcome, World, GRANTED, MASK_FORBIDS, NUMBERS_ENDED,
+};
 use std::collections::BTreeSet;
 
 /// One call that both sides agreed on.
@@ -18,7 +20,7 @@ pub struct Done<'a> {
 
 type Feature = (&'static str, fn(&Done) -> bool);
 
-pub const FEATURES: [Feature; 25] = [
+pub const FEATURES: [Feature; 29] = [
     ("the root full to its last unit", |done| done.granted() && done.root_spare() == 0),
     ("256 objects", |done| done.after.objects.len() == 256),
     ("255 links", |done| done.after.links.len() == 255),
@@ -48,12 +50,27 @@ pub const FEATURES: [Feature; 25] = [
     ("a row taken below one in use", |done| taken_below(&done.was.rows, &done.is.rows)),
     ("a link taken below one in use", |done| taken_below(&done.was.links, &done.is.links)),
     ("a block taken below one in use", |done| taken_below(&done.was.blocks, &done.is.blocks)),
+    ("a call granted where a segment stands in a container that forbids segments (W2)", |done| {
+        done.granted() && done.old_links() > 0
+    }),
+    ("8 for a further link into such a container", |done| {
+        done.masked_link().map_or(false, |(d, _)| done.holds_forbidden(d))
+    }),
+    ("8 for a segment that stands in it already", |done| {
+        done.masked_link().map_or(false, |link| done.before.links.contains(&link))
+    }),
+    ("a link out of such a container", |done| done.linked_from().map_or(false, |d| done.holds_forbidden(d))),
 ];
 
 /// Whether a free place was taken that has one in use above it.
 fn taken_below<T>(was: &[Option<T>], is: &[Option<T>]) -> bool {
     let taken = (0..was.len()).find(|i| was[*i].is_none() && is[*i].is_some());
     taken.map_or(false, |place| was[place..].iter().any(|one| one.is_some()))
+}
+
+/// Whether the link puts a segment into a container that forbids segments.
+fn forbidden(world: &World, (d, o): &(u64, u64)) -> bool {
+    world.objects[o].kind() == Kind::Segment && world.objects[d].mask() & Kind::Segment.mask_bit() != 0
 }
 
 fn full(label: Option<Label>) -> bool {
@@ -90,6 +107,31 @@ impl Done<'_> {
             Call::LinkSegment { o, .. } if self.granted() => Some(self.after.holders_of(*o).len()),
             _ => None,
         }
+    }
+
+    /// The container and the segment of a link that was refused for the mask.
+    fn masked_link(&self) -> Option<(u64, u64)> {
+        match self.call {
+            Call::LinkSegment { o, d, .. } if self.outcome.answer == MASK_FORBIDS => Some((*d, *o)),
+            _ => None,
+        }
+    }
+
+    /// The container that a granted link names the segment with.
+    fn linked_from(&self) -> Option<u64> {
+        match self.call {
+            Call::LinkSegment { d1, .. } if self.granted() => Some(*d1),
+            _ => None,
+        }
+    }
+
+    /// Whether a container that forbids segments holds one: by a link from before W2 (RULES 12.8).
+    fn holds_forbidden(&self, d: u64) -> bool {
+        self.before.links.iter().any(|link| link.0 == d && forbidden(self.before, link))
+    }
+
+    fn old_links(&self) -> usize {
+        self.before.links.iter().filter(|link| forbidden(self.before, link)).count()
     }
 
     fn unreferenced(&self) -> Option<u64> {

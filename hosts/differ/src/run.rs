@@ -1,8 +1,10 @@
 //! One history: an opening with a theme, then the mixture up to its last call.
 
-use crate::bench::{Bench, Checked, Step};
+use crate::bench::{need, Bench, Checked, Step};
 use crate::features::{Done, FEATURES};
 use crate::mixture;
+use flytewood_model::book::laid::laid;
+use flytewood_model::book::place::Order;
 use flytewood_model::coverage::{count_one, Seen};
 use flytewood_model::model::{Call, Outcome};
 use flytewood_model::random::Random;
@@ -89,6 +91,25 @@ impl<'a> Run<'a> {
         } else {
             Err(format!("an opening counts on {} and {} was answered", asked, outcome.answer))
         }
+    }
+
+    /// A call that the opening needs to be refused so.
+    pub fn refuse(&mut self, caller: u64, call: Call, answer: u64) -> Checked {
+        let asked = format!("{:?}", call);
+        let outcome = self.take(caller, call)?;
+        need(outcome.answer == answer, || {
+            format!("an opening counts on {} for {} and {} was answered", answer, asked, outcome.answer)
+        })
+    }
+
+    /// The world gets these links, and is laid out anew at any rows, links and blocks.
+    pub fn with_links(&mut self, links: &[(u64, u64)]) -> Checked {
+        let mut world = self.bench.world.clone();
+        world.links.extend(links);
+        let (book, area) = laid(&mut self.random, &world, Order::Shuffled, 5);
+        self.bench = Bench::over(&book, &area);
+        need(self.bench.world == world, || "the book laid out anew spells another world".to_string())?;
+        self.bench.is_sound()
     }
 
     /// The mixture up to the history's last call.

@@ -4,12 +4,12 @@ use crate::bench::{need, Bench, Checked};
 use crate::run::{Run, Tally};
 use flytewood_model::ask::*;
 use flytewood_model::labels::*;
-use flytewood_model::model::{Call, Kind, LAST_FIRST_NUMBER};
+use flytewood_model::model::{Call, Kind, LAST_FIRST_NUMBER, MASK_FORBIDS};
 use flytewood_model::random::Random;
 
 type Opening = fn(&mut Run) -> Checked;
 
-const THEMES: [(&str, Opening); 12] = [
+const THEMES: [(&str, Opening); 13] = [
     ("mixture", nothing),
     ("the root filled", fill_the_root),
     ("256 objects", crowd),
@@ -22,6 +22,7 @@ const THEMES: [(&str, Opening); 12] = [
     ("a host that scribbles", scribble),
     ("the numbers end", nothing),
     ("labels apart", apart),
+    ("links from before W2", old_links),
 ];
 
 /// The history of this seed; gives the bench as it stands after it.
@@ -263,4 +264,46 @@ fn apart(run: &mut Run) -> Checked {
     }
     let threads = run.bench.world.objects.values().filter(|object| object.kind() == Kind::Thread).count();
     need(threads == 9, || format!("{} threads stand apart", threads))
+}
+
+/// RULES 12.8: "Links made before that stay, and a book that holds them is sound: .. Every call goes on with it
+/// by the same rules, .." The links are added to the world, and it is laid out anew.
+fn old_links(run: &mut Run) -> Checked {
+    let (root, init) = (run.root, run.init);
+    let own = run.grant(init, category())?;
+    let owner = Label::of(LEVEL_1, &[(own, STAR)]);
+    let masked = run.grant(init, container(root, one(), Kind::Segment.mask_bit(), 60))?;
+    let below = run.grant(init, container(masked, one(), 0, 20))?;
+    let open = run.grant(init, container(root, one(), 0, 20))?;
+    let mut old = Vec::new();
+    for _ in 0..3 {
+        let s = run.grant(init, segment(root, one(), 4))?;
+        run.grant(init, fix(root, s))?;
+        run.refuse(init, link(root, s, masked), MASK_FORBIDS)?;
+        old.push(s);
+    }
+    let loose = run.grant(init, segment(root, one(), 4))?;
+    run.with_links(&[(masked, old[0]), (masked, old[1]), (below, old[0])])?;
+    let (s, other) = (old[0], old[2]);
+    run.refuse(init, link(root, other, masked), MASK_FORBIDS)?;
+    run.refuse(init, link(root, s, masked), MASK_FORBIDS)?;
+    run.refuse(init, link(root, loose, masked), MASK_FORBIDS)?;
+    run.refuse(init, segment(masked, one(), 1), MASK_FORBIDS)?;
+    let g = run.grant(init, gate(masked, owner, two(), 3))?;
+    let guest = run.grant(init, thread(masked, one(), two()))?;
+    run.grant(init, container(masked, one(), 0, 5))?;
+    run.grant(init, fix(masked, s))?;
+    run.grant(init, resize(masked, s, 70))?;
+    run.grant(init, write(masked, s, 1, 0, &[8, 9]))?;
+    run.grant(init, read(masked, s, 1, 0, 6))?;
+    run.grant(init, look(masked, s))?;
+    run.grant(init, move_quota(masked, below, 2))?;
+    run.grant(init, link(masked, s, open))?;
+    run.grant(guest, enter(masked, g, owner, two(), one()))?;
+    run.grant(guest, set_label(one()))?;
+    run.grant(guest, set_clearance(one()))?;
+    run.grant(guest, segment(open, one(), 2))?;
+    run.grant(init, category())?;
+    run.grant(init, unreference(masked, old[1]))?;
+    run.refuse(init, link(root, old[1], masked), MASK_FORBIDS)
 }
