@@ -1,4 +1,4 @@
--- What each granted call writes into the ledger, what it changes, and what its caller may write.
+-- What each granted call writes into the ledger, what it changes, what its caller may write, and that no mask forbids what it links.
 use Prim.Native.Nat.{ℕ, suc, _+_, _-_, _≤_}
 use mathlib.Core.Bool.{Bool, true, false}
 use mathlib.Core.Path.{_≡_}
@@ -7,13 +7,13 @@ use lib.IntN.{pos, negsuc}
 use borrow.Author.Tests.{leb-true, not-true}
 use Rattle.labels.specs.declared.Label.{Label}
 use Rattle.labels.specs.Core.{flows, mayRead, mayWrite}
-use Rattle.rules.specs.Kernel.{World, Obj, isLive, relabel, fix, requota, rewrite, Change, keep, alter, create, cut, link, Verdict, grant, must, mustHold, Call}
+use Rattle.rules.specs.Kernel.{World, Obj, isLive, segment, forbids, relabel, fix, requota, rewrite, Change, keep, alter, create, cut, link, Verdict, grant, must, mustHold, Call}
 use Rattle.rules.specs.Kernel.{createCategory, setLabel, setClearance, createContainer, createSegment, createGate, createThread, unreference, linkSegment, fixQuota}
 use Rattle.rules.specs.Kernel.{moveQuota, read, write, resize, enterGate, look, call, judge, make, move, access, opens, entry, fits, spareOf, containerOf, segmentOf, gateOf}
 use Rattle.rules.specs.Kernel.{threadOf, Condition, holds, allHold, flow, reading, writing}
 use Rattle.rules.specs.Ledger.{Line, nothingWritten, made, tied, movedIn, movedBack, lineIf}
 use Rattle.rules.specs.Laws.Bools.{and-r, then-i}
-use Rattle.rules.specs.Laws.Kinds.{segment-live}
+use Rattle.rules.specs.Laws.Kinds.{is-segment, segment-live}
 use Rattle.rules.specs.Laws.Must.{must-test, must-rest, hold-test, hold-rest, same-change, passed, all-head, all-tail, all-left, all-right}
 
 -- A line and a change of a call that the caller c was granted in w.
@@ -23,8 +23,10 @@ pub data Booked (w : World) (c : ℕ) : Line → Change → Type 0 where
   fixes : (o : ℕ) → Booked w c nothingWritten (alter o fix)
   rewrites : (o : ℕ) (b : List ℕ) → mayWrite ((w .obj c) .label) ((w .obj o) .label) ≡ true → Booked w c nothingWritten (alter o (rewrite b))
   cuts : (d o : ℕ) → Booked w c nothingWritten (cut d o)
-  makes : (d : ℕ) (x : Obj) → mayWrite ((w .obj c) .label) ((w .obj d) .label) ≡ true → Booked w c (made d (w .next) (x .quota)) (create d x)
-  ties : (d o : ℕ) → mayWrite ((w .obj c) .label) ((w .obj d) .label) ≡ true → isLive ((w .obj o) .kind) ≡ true → Booked w c (tied d o) (link d o)
+  makes : (d : ℕ) (x : Obj) → mayWrite ((w .obj c) .label) ((w .obj d) .label) ≡ true → forbids ((w .obj d) .mask) (x .kind) ≡ false
+      → Booked w c (made d (w .next) (x .quota)) (create d x)
+  ties : (d o : ℕ) → mayWrite ((w .obj c) .label) ((w .obj d) .label) ≡ true → isLive ((w .obj o) .kind) ≡ true
+      → forbids ((w .obj d) .mask) ((w .obj o) .kind) ≡ false → Booked w c (tied d o) (link d o)
   moves : (d o n : ℕ) → mayWrite ((w .obj c) .label) ((w .obj d) .label) ≡ true → w .linked d o ≡ true → (w .obj o) .fixed ≡ false
       → Booked w c (movedIn d o n) (alter o (requota ((w .obj o) .quota + n)))
   takes : (d o n : ℕ) → mayWrite ((w .obj c) .label) ((w .obj d) .label) ≡ true → mayWrite ((w .obj c) .label) ((w .obj o) .label) ≡ true
@@ -63,7 +65,7 @@ module _ (w : World) (c v : ℕ) (b : List ℕ) (h : Change) where
 
   booked-make : (d : ℕ) (x : Obj) (more : List Condition) → make w (w .obj c) d x more ≡ grant v b h → Booked w c (made d (w .next) (x .quota)) h
   unfolding make
-  booked-make d x more = pass _ 5 _ λ p. all _ _ λ q. pass _ 8 _ λ r. pass _ 13 _ λ s. done _ _ _ _ (makes d x (writing-first _ _ _ q))
+  booked-make d x more = pass _ 5 _ λ p. all _ _ λ q. pass _ 8 _ λ m. pass _ 13 _ λ s. done _ _ _ _ (makes d x (writing-first _ _ _ q) (not-true _ m))
 
   booked-access : (l : Line) (d s : ℕ) (qs : List Condition) (r : Verdict) → (allHold qs ≡ true → r ≡ grant v b h → Booked w c l h)
       → access w (w .obj c) d s qs r ≡ grant v b h → Booked w c l h
@@ -82,7 +84,8 @@ module _ (w : World) (c v : ℕ) (b : List ℕ) (h : Change) where
   booked-judge (unreference d o) = pass _ 5 _ λ p. all _ _ λ q. done _ _ _ _ (cuts d o)
   booked-judge (linkSegment d1 o d) =
       pass _ 5 _ λ p. pass _ 6 _ λ k. all _ _ λ q. pass _ 8 _ λ m. pass _ 9 _ λ r. pass _ 10 _ λ s. pass _ 13 _ λ t.
-      done _ _ _ _ (ties d o (writing-first _ _ _ q) (segment-live ((w .obj o) .kind) k))
+      let here = is-segment ((w .obj o) .kind) k in
+      done _ _ _ _ (ties d o (writing-first _ _ _ q) (segment-live ((w .obj o) .kind) k) (rw here (not-true (forbids ((w .obj d) .mask) segment) m)))
   booked-judge (fixQuota d o) = pass _ 5 _ λ p. pass _ 6 _ λ k. all _ _ λ q. done _ _ _ _ (fixes o)
   booked-judge (moveQuota d o (pos n)) =
       pass _ 5 _ λ p. pass _ 6 _ λ k. all _ _ λ q. pass _ 9 _ λ r. pass _ 13 _ λ s.

@@ -85,8 +85,8 @@ module _ (w : World) (s : Sound w) (p : ℕ) where
     calm-booked l h (cuts d o) lives =
         let k = cut-live w d o p lives in
         same-object (apply (cut d o) w) (cut-kept w s d o p k) (cut-use-le w s d o p k)
-    calm-booked l h (makes d x m) lives = same-object (apply (create d x) w) (create-old w s d x p live) (omega (arith, create-use-others w s d x p live (other d m)))
-    calm-booked l h (ties d o m i) lives = same-object (apply (link d o) w) (unfold apply in refl) (omega (arith, link-use-others w s d o p (other d m)))
+    calm-booked l h (makes d x m a) lives = same-object (apply (create d x) w) (create-old w s d x p live) (omega (arith, create-use-others w s d x p live (other d m)))
+    calm-booked l h (ties d o m i a) lives = same-object (apply (link d o) w) (unfold apply in refl) (omega (arith, link-use-others w s d o p (other d m)))
     calm-booked l h (moves d o n m i f) lives = calm-requota d o ((w .obj o) .quota + n) (other d m) i f (λ e. omega arith)
     calm-booked l h (takes d o n m m2 i f r) lives = calm-requota d o ((w .obj o) .quota - n) (other d m) i f (λ e. absurd (other o m2 e))
 

@@ -123,8 +123,8 @@ module _ (w : World) (s : Sound w) (g : ℕ → ℕ) (k : ℕ → ℕ → ℕ) (
   told-booked c l h (fixes o) = told-alter o fix (unfold edit in refl)
   told-booked c l h (rewrites o b m) = told-alter o (rewrite b) (unfold edit in refl)
   told-booked c l h (cuts d o) = told-cut d o
-  told-booked c l h (makes d x m) = told-create d x
-  told-booked c l h (ties d o m i) = told-link d o i
+  told-booked c l h (makes d x m a) = told-create d x
+  told-booked c l h (ties d o m i a) = told-link d o i
   told-booked c l h (moves d o n m i f) = told-requota (λ q. q + n) d o i f
   told-booked c l h (takes d o n m m2 i f r) = told-requota (λ q. q - n) d o i f
 

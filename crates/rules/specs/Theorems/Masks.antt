@@ -2,27 +2,23 @@
 use Prim.Native.Nat.{ℕ, _<_}
 use native.Mathlib.Omega.{arith}
 use mathlib.Core.Bool.{Bool, true, false, cond, _&&_}
-use mathlib.Core.Path.{_≡_, refl, sym, _∙_}
-use mathlib.Core.List.{List}
+use mathlib.Core.Path.{_≡_, refl}
 use lib.Dec.{leb}
-use lib.IntN.{pos, negsuc}
-use borrow.Author.Tests.{not-true}
-use Rattle.rules.specs.Kernel.{isLive, segment, Obj, World, nothing, Change, keep, alter, create, cut, link, apply, numberOf, Verdict, refused, grant}
-use Rattle.rules.specs.Kernel.{Condition, Call, createCategory, setLabel, setClearance, createContainer, createSegment, createGate, createThread, unreference, linkSegment}
-use Rattle.rules.specs.Kernel.{fixQuota, moveQuota, read, write, resize, enterGate, look, forbids, make, judge, call, leaves, after, start}
-use Rattle.rules.specs.Kernel.{History, beginning, next, worldAfter}
+use Rattle.rules.specs.Kernel.{isLive, World, nothing, Change, keep, alter, create, cut, link, apply, numberOf, Verdict, refused, grant, Call, forbids, call, leaves, after}
+use Rattle.rules.specs.Kernel.{start, History, beginning, next, worldAfter}
 use Rattle.rules.specs.Sound.{Sound}
 use Rattle.rules.specs.Fair.{Fair}
 use Rattle.rules.specs.Histories.{firstWorld, WellStarted}
+use Rattle.rules.specs.Ledger.{Line, lineIf}
 use Rattle.rules.specs.Masks.{forbiddenIn}
 use Rattle.rules.specs.Laws.Bools.{and-l, and-r, and-i, not-i, not-both}
-use Rattle.rules.specs.Laws.Kinds.{is-segment, container-live, nothing-dead}
-use Rattle.rules.specs.Laws.Must.{must-test, must-rest, hold-rest, same-change, passed}
+use Rattle.rules.specs.Laws.Kinds.{container-live, nothing-dead}
+use Rattle.rules.specs.Laws.Must.{passed}
 use Rattle.rules.specs.Laws.Put.{put-same, put-other, put-at, link-cases}
 use Rattle.rules.specs.Laws.Edit.{edit-mask, alter-kind, alter-field}
 use Rattle.rules.specs.Laws.Below.{stays-linked}
 use Rattle.rules.specs.Laws.Effects.{cut-at}
-use Rattle.rules.specs.Laws.Outcome.{outcome, judge-outcome}
+use Rattle.rules.specs.Laws.Booked.{Booked, keeps, relabels, fixes, rewrites, cuts, makes, ties, moves, takes, booked}
 use Rattle.rules.specs.Laws.Grants.{grants-fair}
 use Rattle.rules.specs.Laws.StartSound.{start-allows}
 use Rattle.rules.specs.Laws.Keep.{keep-sound}
@@ -38,46 +34,17 @@ Allowed w (create d x) = forbids ((w .obj d) .mask) (x .kind) ≡ false
 Allowed w (cut d o) = Unit {0}
 Allowed w (link d o) = forbids ((w .obj d) .mask) ((w .obj o) .kind) ≡ false
 
-module _ (w : World) (c v : ℕ) (b : List ℕ) (h : Change) where
-  make-allowed : (d : ℕ) (x : Obj) (more : List Condition) → make w (w .obj c) d x more ≡ grant v b h → Allowed w h
-  unfolding make
-  make-allowed d x more e =
-      let at-8 = hold-rest v b h _ _ (must-rest v b h _ 5 _ e) in
-      let m = not-true (forbids ((w .obj d) .mask) (x .kind)) (must-test v b h _ 8 _ at-8) in
-      same-change (Allowed w) _ v _ b (create d x) h (must-rest v b h _ 13 _ (must-rest v b h _ 8 _ at-8)) m
-
-  link-allowed : (d1 o d : ℕ) → judge w (w .obj c) c (linkSegment d1 o d) ≡ grant v b h → Allowed w h
-  unfolding judge
-  link-allowed d1 o d e =
-      let at-6 = must-rest v b h _ 5 _ e in
-      let k = is-segment ((w .obj o) .kind) (must-test v b h _ 6 _ at-6) in
-      let at-8 = hold-rest v b h _ _ (must-rest v b h _ 6 _ at-6) in
-      let m = not-true (forbids ((w .obj d) .mask) segment) (must-test v b h _ 8 _ at-8) in
-      let at-13 = must-rest v b h _ 10 _ (must-rest v b h _ 9 _ (must-rest v b h _ 8 _ at-8)) in
-      same-change (Allowed w) _ v _ b (link d o) h (must-rest v b h _ 13 _ at-13) (rw k m)
-
-  other : (x : Call) (n : ℕ) (a : List ℕ) (g : Change) → outcome w (w .obj c) c x ≡ grant n a g → Allowed w g → judge w (w .obj c) c x ≡ grant v b h → Allowed w h
-  other x n a g o k e = same-change (Allowed w) n v a b g h (sym o ∙ judge-outcome w (w .obj c) c v b h x e) k
-
-  judge-allowed : (x : Call) → judge w (w .obj c) c x ≡ grant v b h → Allowed w h
-  unfolding outcome
-  judge-allowed createCategory = other createCategory _ _ _ refl tt
-  judge-allowed (setLabel l) = other (setLabel l) _ _ _ refl tt
-  judge-allowed (setClearance l) = other (setClearance l) _ _ _ refl tt
-  judge-allowed (createContainer d l s m q) = unfold judge in make-allowed d _ _
-  judge-allowed (createSegment d l s q) = unfold judge in make-allowed d _ _
-  judge-allowed (createGate d l k e x s) = unfold judge in make-allowed d _ _
-  judge-allowed (createThread d l k s) = unfold judge in make-allowed d _ _
-  judge-allowed (unreference d o) = other (unreference d o) _ _ _ refl tt
-  judge-allowed (linkSegment d1 o d) = link-allowed d1 o d
-  judge-allowed (fixQuota d o) = other (fixQuota d o) _ _ _ refl tt
-  judge-allowed (moveQuota d o (pos n)) = other (moveQuota d o (pos n)) _ _ _ refl tt
-  judge-allowed (moveQuota d o (negsuc n)) = other (moveQuota d o (negsuc n)) _ _ _ refl tt
-  judge-allowed (read d s k f n) = other (read d s k f n) _ _ _ refl tt
-  judge-allowed (write d s k f n y) = other (write d s k f n y) _ _ _ refl tt
-  judge-allowed (resize d s n) = other (resize d s n) _ _ _ refl tt
-  judge-allowed (enterGate d g lr cr lv out) = other (enterGate d g lr cr lv out) _ _ _ refl tt
-  judge-allowed (look d o out) = other (look d o out) _ _ _ refl tt
+-- so it is of every granted call
+allowed : (w : World) (c : ℕ) (l : Line) (h : Change) → Booked w c l h → Allowed w h
+allowed w c l h keeps = tt
+allowed w c l h (relabels o x k) = tt
+allowed w c l h (fixes o) = tt
+allowed w c l h (rewrites o b m) = tt
+allowed w c l h (cuts d o) = tt
+allowed w c l h (makes d x m a) = a
+allowed w c l h (ties d o m i a) = a
+allowed w c l h (moves d o n m i f) = tt
+allowed w c l h (takes d o n m k i f z) = tt
 
 -- ---- what a change leaves
 
@@ -154,7 +121,7 @@ none-comes-in w s c x d o = judged (call w c x) refl
     judged (grant v b h) q =
         let p = passed w c x v b h q in
         let f = grants-fair w s c (p .caller) x (p .arguments) v b h (p .judged) in
-        brings-none w s h f (judge-allowed w c v b h x (p .judged)) (keep-sound w s (p .number) h f) d o
+        brings-none w s h f (allowed w c (lineIf (w .next) x) h (booked w c v b h x q)) (keep-sound w s (p .number) h f) d o
 
 -- So a history that began with none has none,
 pub never-forbidden : (h : History) → WellStarted h → ((d o : ℕ) → forbiddenIn (firstWorld h) d o ≡ false) → (d o : ℕ) → forbiddenIn (worldAfter h) d o ≡ false
