@@ -31,7 +31,8 @@ use book::kinds::SEGMENT;
 use book::make::add_link;
 use book::units::spare_of;
 
-// Whether the thread at row t may link the segment at row o in the container at row c, by the tests from 7 on. Granted with both rows.
+// RULES 8.9: "7 unless T may write D and O flows to T's clearance. 8 if D's mask forbids segments. 9 unless O's quota is fixed. 10 if O is linked in
+// D already. 13 if O's quota is above D's spare." T is at row t, D at row c and O at row o. Granted with both rows.
 fn admit(b: &[u8], t: usize, c: usize, o: usize) -> Judged
     requires { ⌜ (length (now b) ≡ size) × Sound (view (now b)) × (t < rowCount) × Live (view (now b)) c × (o < rowCount) ⌝ }
     ensures { λ r. ⌜ r ≡ linkable (view (now (b .entry))) t c o ⌝ }

@@ -209,8 +209,8 @@ MasksHold =
 abbrev pub NoneForbidden : Type 0
 NoneForbidden = (h : History) (b area : List ℕ) → After h b area → (d o : ℕ) → forbiddenIn (world b area) d o ≡ false
 
--- "Links already there stay, and a book holding them is still sound." `Linked` is what call 9 asked for before W2, without the mask. A book with the link that it then made
--- passes the test, and spells the world with that link.
+-- "Links already there stay, and a book holding them is still sound." `Linked` is what call 9 has always asked of container and segment, labels aside; the mask is not in it.
+-- A book with the link that call 9 made before W2 passes the test, and spells the world with that link.
 abbrev pub OldLinksSound : Type 0
 OldLinksSound =
     (b area : List ℕ) → areasB b area ≡ true → (d o : ℕ) → Linked (world b area) d o → world b area .next ≤ lastNumber

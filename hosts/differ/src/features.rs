@@ -51,7 +51,7 @@ pub const FEATURES: [Feature; 29] = [
     ("a link taken below one in use", |done| taken_below(&done.was.links, &done.is.links)),
     ("a block taken below one in use", |done| taken_below(&done.was.blocks, &done.is.blocks)),
     ("a call granted where a segment stands in a container that forbids segments (W2)", |done| {
-        done.granted() && done.old_links() > 0
+        done.granted() && done.has_old_link()
     }),
     ("8 for a further link into such a container", |done| {
         done.masked_link().map_or(false, |(d, _)| done.holds_forbidden(d))
@@ -130,8 +130,8 @@ impl Done<'_> {
         self.before.links.iter().any(|link| link.0 == d && forbidden(self.before, link))
     }
 
-    fn old_links(&self) -> usize {
-        self.before.links.iter().filter(|link| forbidden(self.before, link)).count()
+    fn has_old_link(&self) -> bool {
+        self.before.links.iter().any(|link| forbidden(self.before, link))
     }
 
     fn unreferenced(&self) -> Option<u64> {
