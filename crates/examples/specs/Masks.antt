@@ -49,8 +49,10 @@ pub record Linking : Type 0 where
   -- all that call 9 asked for then, and the mask is not among it
   pub fair : Linked (worldAfter morning) 7 8
   pub going : leb (worldAfter morning .next) lastNumber ≡ true
-  -- the container forbids segments and has one, and one more link into it answers 8
+  -- the container forbids segments and has one, has it still after a granted read of it, and one more link into it answers 8
   pub stands : forbiddenIn old 7 8 ≡ true
+  pub reads : answerOf (call old 6 (read 7 8 0 0 0)) ≡ 0
+  pub stays : forbiddenIn (after old 6 (read 7 8 0 0 0)) 7 8 ≡ true
   pub further : answerOf (call old 6 (linkSegment 5 8 7)) ≡ 8
 
 pub linking : Linking
@@ -64,6 +66,8 @@ linking =
       fair = record { is-container = refl; is-segment = refl; is-fixed = refl; is-new = refl; room = omega arith };
       going = refl;
       stands = refl;
+      reads = refl;
+      stays = refl;
       further = refl;
     }
 
@@ -76,7 +80,7 @@ pub old-sound : Sound old
 unfolding old
 old-sound = keep-sound (worldAfter morning) (history-sound morning started-well) (linking .going) (link 7 8) (linking .fair)
 
--- Calls 11 to 34 on it, each of the sixteen among them, granted in or with container 7 and segment 8. Only what would bring a segment into 7 is refused, by 8: a create
+-- Calls 11 to 34 on it. Each of the sixteen is granted at least once, where it can be in container 7 or on segment 8. Only what would bring a segment into 7 is refused, by 8: a create
 -- (17), a link of 8 itself (21), of segment 22 while its quota is not fixed (23) and when it is (25), and of 8 again when the old link is cut (34). Call 27 links 8 out of 7.
 pub afternoon : List Turn
 afternoon =
@@ -144,6 +148,31 @@ crowd =
 
 unfoldable pub crowded : World
 crowded = apply (link 7 9) (worldAfter crowd)
+
+-- It is sound too, so a book can spell it.
+crowd-fair : Linked (worldAfter crowd) 7 9
+unfolding crowd one two wordsFor lent zeros32
+    worldAfter start call after tests judge unless must whyNot mustHold opens entry make move access forbids fits spareOf useOf charged units answerOf valueOf outputOf leaves
+    apply put linkIn under below stays kept edit goodArguments goodLabel goodText holds allHold flow reading writing floorFlow flowJoin flowJoinHigh containerOf segmentOf
+    gateOf threadOf clearedAt lookBytes overwrite resized orDefault kindCode isLive isThread isGate isSegment isContainer hasClearance blank nothing Σ when any both either
+    leAt leBytes levelAt everyNamed holdsB compareB zerosB wordsB formedB insertW roomB wordsAt labelOf wordsBytes labelBytes
+crowd-fair = record { is-container = refl; is-segment = refl; is-fixed = refl; is-new = refl; room = omega arith }
+
+crowd-going : leb (worldAfter crowd .next) lastNumber ≡ true
+unfolding crowd one two wordsFor lent zeros32
+    worldAfter start call after tests judge unless must whyNot mustHold opens entry make move access forbids fits spareOf useOf charged units answerOf valueOf outputOf leaves
+    apply put linkIn under below stays kept edit goodArguments goodLabel goodText holds allHold flow reading writing floorFlow flowJoin flowJoinHigh containerOf segmentOf
+    gateOf threadOf clearedAt lookBytes overwrite resized orDefault kindCode isLive isThread isGate isSegment isContainer hasClearance blank nothing Σ when any both either
+    leAt leBytes levelAt everyNamed holdsB compareB zerosB wordsB formedB insertW roomB wordsAt labelOf wordsBytes labelBytes
+crowd-going = refl
+
+crowd-well : WellStarted crowd
+unfolding crowd firstWorld startable
+crowd-well = start-is-sound 5 refl
+
+pub crowded-sound : Sound crowded
+unfolding crowded
+crowded-sound = keep-sound (worldAfter crowd) (history-sound crowd crowd-well) crowd-going (link 7 9) crowd-fair
 
 -- a link that is asked for: by whom, of which segment of the root, into which container
 pub record Asked : Type 0 where
