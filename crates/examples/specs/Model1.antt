@@ -255,7 +255,7 @@ h07-said =
     ∷ said 0 23 []
     ∷ []
 
--- The mask forbids kinds, is handed down, and is asked at creation and at a link
+-- The mask forbids kinds, is handed down, and is judged at creation and at a link
 h08 : List Turn
 h08 =
     turn 6 (createContainer 5 (lent 2 []) zeros32 15 9)
@@ -273,6 +273,7 @@ h08 =
     ∷ turn 6 (createSegment 5 (lent 2 []) zeros32 2)
     ∷ turn 6 (fixQuota 5 19)
     ∷ turn 6 (linkSegment 5 19 7)
+    ∷ turn 6 (linkSegment 5 19 15)
     ∷ []
 
 h08-said : List Said
@@ -291,6 +292,7 @@ h08-said =
     ∷ said 0 18 []
     ∷ said 0 19 []
     ∷ said 0 0 []
+    ∷ said 8 0 []
     ∷ said 8 0 []
     ∷ []
 

@@ -94,23 +94,22 @@ h32-said =
 h33 : List Turn
 h33 =
     turn 6 (createSegment 5 (lent 2 []) zeros32 4)
-    ∷ turn 6 (createContainer 5 (lent 2 []) zeros32 0 4)
     ∷ turn 6 (createContainer 5 (lent 2 []) zeros32 4 4)
+    ∷ turn 6 (createContainer 5 (lent 2 []) zeros32 11 4)
     ∷ turn 6 (createThread 5 (lent 3 []) (lent 3 []) zeros32)
-    ∷ turn 7 (linkSegment 39 8 39)
-    ∷ turn 10 (linkSegment 5 8 39)
-    ∷ turn 10 (linkSegment 8 8 8)
-    ∷ turn 10 (linkSegment 5 8 9)
-    ∷ turn 10 (linkSegment 5 7 9)
-    ∷ turn 6 (linkSegment 5 7 9)
+    ∷ turn 7 (linkSegment 39 9 39)
+    ∷ turn 10 (linkSegment 5 9 39)
+    ∷ turn 10 (linkSegment 9 9 9)
+    ∷ turn 10 (linkSegment 5 9 8)
+    ∷ turn 10 (linkSegment 5 7 8)
+    ∷ turn 6 (linkSegment 5 7 8)
     ∷ turn 6 (linkSegment 5 7 5)
     ∷ turn 6 (fixQuota 5 7)
-    ∷ turn 6 (linkSegment 5 7 9)
     ∷ turn 6 (linkSegment 5 7 5)
-    ∷ turn 6 (linkSegment 5 7 8)
-    ∷ turn 6 (moveQuota 5 8 (into 1))
-    ∷ turn 6 (linkSegment 5 7 8)
-    ∷ turn 6 (linkSegment 5 7 8)
+    ∷ turn 6 (linkSegment 5 7 9)
+    ∷ turn 6 (moveQuota 5 9 (into 1))
+    ∷ turn 6 (linkSegment 5 7 9)
+    ∷ turn 6 (linkSegment 5 7 9)
     ∷ []
 
 h33-said : List Said
@@ -127,7 +126,6 @@ h33-said =
     ∷ said 8 0 []
     ∷ said 9 0 []
     ∷ said 0 0 []
-    ∷ said 8 0 []
     ∷ said 10 0 []
     ∷ said 13 0 []
     ∷ said 0 0 []

@@ -144,10 +144,11 @@ impl Turn<'_> {
     fn create(self, d: u64, mut new: Row) -> Judged {
         let d = self.container(d)?;
         need(self.may_create(d, &new), LABEL_CONDITION)?;
-        need(!forbids(self.b, d, new.kind), MASK_FORBIDS)?;
+        let forbidden = mask(self.b, d);
+        need(forbidden >> (new.kind - THREAD) & 1 == 0, MASK_FORBIDS)?;
         need(new.quota <= spare(self.b, d), NOT_ENOUGH_SPARE)?;
         if new.kind == CONTAINER {
-            new.mask |= mask(self.b, d);
+            new.mask |= forbidden;
         }
         let row = (0..ROWS).find(|row| kind(self.b, *row) == FREE).expect("units bound the rows");
         write_row(self.b, row, &new);

@@ -87,11 +87,6 @@ pub fn mask(b: &Book, row: usize) -> u8 {
     b[MASK + row]
 }
 
-/// RULES 1.6: "bit 0 forbids threads, bit 1 gates, bit 2 segments and bit 3 containers."
-pub fn forbids(b: &Book, row: usize, kind: u8) -> bool {
-    mask(b, row) >> (kind - THREAD) & 1 == 1
-}
-
 pub fn fixed(b: &Book, row: usize) -> u8 {
     b[FIXED + row]
 }

@@ -5,9 +5,8 @@ use crate::entries::{link_of, spare, Entry};
 use crate::labels::{flows, may_read};
 use crate::layout::*;
 use crate::{need, take, Judged, Turn};
-use crate::{
-    ALREADY_LINKED, FIXED_OR_NOT, LABEL_CONDITION, MALFORMED, MASK_FORBIDS, NOT_ENOUGH_SPARE, WRONG_KIND,
-};
+use crate::{ALREADY_LINKED, FIXED_OR_NOT, LABEL_CONDITION, MALFORMED, MASK_FORBIDS};
+use crate::{NOT_ENOUGH_SPARE, WRONG_KIND};
 
 const LARGEST_MOVE: i64 = 256;
 
@@ -52,13 +51,14 @@ impl Turn<'_> {
         Ok(0)
     }
 
+    /// W2: "8 also for call 9, when the destination's mask forbids segments."
     fn link_segment(self, d1: u64, o: u64, d: u64) -> Judged {
         let entry = self.entry(d1, o)?;
         let (o, d) = (entry.o, self.container(d)?);
         need(kind(self.b, o) == SEGMENT, WRONG_KIND)?;
         let allowed = self.may_write(d) && flows(label(self.b, o), self.clearance());
         need(allowed, LABEL_CONDITION)?;
-        need(!forbids(self.b, d, SEGMENT), MASK_FORBIDS)?;
+        need(mask(self.b, d) >> (SEGMENT - THREAD) & 1 == 0, MASK_FORBIDS)?;
         need(fixed(self.b, o) == 1, FIXED_OR_NOT)?;
         need(link_of(self.b, d, o).is_none(), ALREADY_LINKED)?;
         need(quota(self.b, o) <= spare(self.b, d), NOT_ENOUGH_SPARE)?;

@@ -1,10 +1,13 @@
 //! The byte kernel and the model answer alike, and the book spells the model's world after every call.
 
 use flytewood_bytekernel as bytes;
+use flytewood_model::book::laid::laid;
+use flytewood_model::book::place::Order;
 use flytewood_model::book::*;
 use flytewood_model::drawn::Drawer;
 use flytewood_model::histories;
-use flytewood_model::model::{Body, Call, Kind, Object, Outcome, World, GRANTED};
+use flytewood_model::model::{Body, Call, Kind, Object, Outcome, World};
+use flytewood_model::model::{GRANTED, MASK_FORBIDS};
 use flytewood_model::random::Random;
 use flytewood_model::steered::steered;
 use std::collections::{BTreeMap, BTreeSet};
@@ -94,8 +97,18 @@ fn a_drawn_history(seed: u64, longest: u64, seen: &mut BTreeMap<(u64, u64), usiz
     let mut random = Random::new(seed);
     let mut world = World::start(FIRST).expect("a first number");
     let mut machine = Machine::start(FIRST);
+    drawn_calls(&mut random, &mut machine, &mut world, longest, seen);
+}
+
+fn drawn_calls(
+    random: &mut Random,
+    machine: &mut Machine,
+    world: &mut World,
+    longest: u64,
+    seen: &mut BTreeMap<(u64, u64), usize>,
+) {
     for _ in 0..CALLS {
-        let (caller, call) = Drawer { random: &mut random, world: &world, longest }.turn();
+        let (caller, call) = Drawer { random: &mut *random, world, longest }.turn();
         let mut after = world.clone();
         after.call(caller, &call);
         // A history in which nobody can call, or much is lost at once, says little.
@@ -103,7 +116,7 @@ fn a_drawn_history(seed: u64, longest: u64, seen: &mut BTreeMap<(u64, u64), usiz
         if live(&after, Kind::Thread) == 0 || after.objects.len() + 4 < world.objects.len() {
             continue;
         }
-        let outcome = same(&mut machine, &mut world, caller, &call);
+        let outcome = same(machine, world, caller, &call);
         *seen.entry((call.number(), outcome.answer)).or_insert(0) += 1;
     }
 }
@@ -116,6 +129,41 @@ fn drawn_histories() {
     }
     for call in 1..=16 {
         assert!(seen.contains_key(&(call, GRANTED)), "call {} was never granted: {:?}", call, seen);
+    }
+}
+
+/// W2: "Links already there stay, and a book holding them is still sound." Some containers that hold segments
+/// come to forbid them, with all below.
+#[test]
+fn drawn_histories_with_links_from_before() {
+    let (mut seen, mut links_from_before) = (BTreeMap::new(), 0);
+    for seed in 100..200 {
+        let mut random = Random::new(seed);
+        let mut world = World::start(FIRST).expect("a first number");
+        drawn_calls(&mut random, &mut Machine::start(FIRST), &mut world, 600, &mut BTreeMap::new());
+        for container in world.containers() {
+            if random.chance(30) {
+                forbid_segments(&mut world, container);
+            }
+        }
+        let forbidden = |(d, o): &&(u64, u64)| {
+            world.objects[d].mask() & 4 != 0 && world.objects[o].kind() == Kind::Segment
+        };
+        links_from_before += world.links.iter().filter(forbidden).count();
+        let (book, area) = laid(&mut random, &world, Order::Shuffled, 50);
+        let mut machine = Machine { book, area };
+        drawn_calls(&mut random, &mut machine, &mut world, 600, &mut seen);
+    }
+    assert!(links_from_before > 40, "only {}", links_from_before);
+    assert!(seen.contains_key(&(9, GRANTED)) && seen.contains_key(&(9, MASK_FORBIDS)), "{:?}", seen);
+}
+
+fn forbid_segments(world: &mut World, container: u64) {
+    if let Some(Body::Container { mask }) = world.objects.get_mut(&container).map(|o| &mut o.body) {
+        *mask |= 4;
+        for inner in world.linked_in(container) {
+            forbid_segments(world, inner);
+        }
     }
 }
 

@@ -41,7 +41,7 @@ fn granted_room() -> History {
 
 fn the_mask() -> History {
     let mut s =
-        Script::new("The mask forbids kinds, is handed down, and is asked at creation and at a link", FIRST);
+        Script::new("The mask forbids kinds, is handed down, and is judged at creation and at a link", FIRST);
     let all = s.grant(INIT, container(ROOT, one(), 15, 9));
     s.refuse(MASK_FORBIDS, INIT, thread(all, one(), two()));
     s.refuse(MASK_FORBIDS, INIT, gate(all, one(), two(), 1));
@@ -57,6 +57,7 @@ fn the_mask() -> History {
     let o = s.grant(INIT, segment(ROOT, one(), 2));
     s.grant(INIT, fix(ROOT, o));
     s.refuse(MASK_FORBIDS, INIT, link(ROOT, o, all));
+    s.refuse(MASK_FORBIDS, INIT, link(ROOT, o, inner));
     s.end()
 }
 

@@ -54,8 +54,8 @@ fn gates_and_threads() -> History {
 fn a_link() -> History {
     let mut s = Script::new("A link, mended one refusal at a time", FIRST);
     let o = s.grant(INIT, segment(ROOT, one(), 4));
-    let d = s.grant(INIT, container(ROOT, one(), 0, 4));
     let masked = s.grant(INIT, container(ROOT, one(), 4, 4));
+    let d = s.grant(INIT, container(ROOT, one(), 11, 4));
     let raised = s.grant(INIT, thread(ROOT, two(), two()));
     s.refuse(NO_LIVE_THREAD, o, link(ABSENT, d, ABSENT));
     s.refuse(NO_ENTRY, raised, link(ROOT, d, ABSENT));
@@ -65,7 +65,6 @@ fn a_link() -> History {
     s.refuse(MASK_FORBIDS, INIT, link(ROOT, o, masked));
     s.refuse(FIXED_OR_NOT, INIT, link(ROOT, o, ROOT));
     s.grant(INIT, fix(ROOT, o));
-    s.refuse(MASK_FORBIDS, INIT, link(ROOT, o, masked));
     s.refuse(ALREADY_LINKED, INIT, link(ROOT, o, ROOT));
     s.refuse(NOT_ENOUGH_SPARE, INIT, link(ROOT, o, d));
     s.grant(INIT, move_quota(ROOT, d, 1));

@@ -1,24 +1,23 @@
 //! Calls 9 to 11: links of segments, fixed quotas and moves of quota.
 
 use super::{granted, need, Body, Caller, Judged, Kind, World};
-use super::{
-    ALREADY_LINKED, FIXED_OR_NOT, LABEL_CONDITION, MALFORMED, MASK_FORBIDS, NOT_ENOUGH_SPARE, WRONG_KIND,
-};
+use super::{ALREADY_LINKED, FIXED_OR_NOT, LABEL_CONDITION, MALFORMED, MASK_FORBIDS};
+use super::{NOT_ENOUGH_SPARE, WRONG_KIND};
 use crate::labels::*;
 
 /// RULES 8.11: "4 unless n is from -256 to 256."
 const MOST_MOVED: i64 = 256;
 
 impl World {
-    /// RULES 8.9: "7 unless T may write D and O flows to T's clearance. 8 if D's mask forbids segments." 12.7:
-    /// "The mask of the container that the segment is named with is not asked."
+    /// RULES 8.9: "7 unless T may write D and O flows to T's clearance." W2: "8 also for call 9, when the
+    /// destination's mask forbids segments."
     pub(super) fn link_segment(&mut self, t: &Caller, d1: u64, o: u64, d: u64) -> Judged {
         let object = self.entry(t, d1, o)?;
-        let forbidden = self.readable_container(t, d)?.mask();
+        let destinations_mask = self.readable_container(t, d)?.mask();
         need(object.kind() == Kind::Segment, WRONG_KIND)?;
         let label_suits = flows(&object.label, &t.clearance);
         need(self.may_write_container(t, d) && label_suits, LABEL_CONDITION)?;
-        need(forbidden & Kind::Segment.mask_bit() == 0, MASK_FORBIDS)?;
+        need(destinations_mask & Kind::Segment.mask_bit() == 0, MASK_FORBIDS)?;
         need(object.is_fixed(), FIXED_OR_NOT)?;
         need(!self.links.contains(&(d, o)), ALREADY_LINKED)?;
         need(object.quota <= self.spare(d), NOT_ENOUGH_SPARE)?;

@@ -74,30 +74,93 @@ fn the_mask_is_judged_at_creation_and_at_a_link() {
     let d = s.grant(6, container(5, one(), 4, 20));
     let o = s.grant(6, segment(5, one(), 5));
     s.refuse(MASK_FORBIDS, 6, segment(d, one(), 5));
-    s.refuse(MASK_FORBIDS, 6, link(5, o, d));
     s.grant(6, fix(5, o));
     s.refuse(MASK_FORBIDS, 6, link(5, o, d));
     let inner = s.grant(6, container(d, one(), 1, 5));
     assert_eq!(s.world.objects[&inner].mask(), 5);
     s.refuse(MASK_FORBIDS, 6, segment(inner, one(), 255));
+    s.refuse(MASK_FORBIDS, 6, link(5, o, inner));
 }
 
-/// RULES 12.8: "Links made before that stay, and a book that holds them is sound: .."
+/// READINGS-02, W2: "8 stands between 7 and 9 at call 9".
 #[test]
-fn a_link_from_before_the_mask_was_asked_stays_and_calls_go_on() {
-    let mut s = Script::new("an old link", 5);
-    let d = s.grant(6, container(5, one(), 4, 20));
-    let o = s.grant(6, segment(5, one(), 5));
-    let other = s.grant(6, container(5, one(), 0, 20));
+fn call_9_asks_the_destinations_mask_after_7_and_before_9() {
+    let mut s = Script::new("8 at call 9", 5);
+    let secret = s.grant(6, category());
+    let tainted = Label::of(LEVEL_1, &[(secret, LEVEL_3)]);
+    let masked = s.grant(6, container(5, one(), 4, 3));
+    let hidden = s.grant(6, container(5, tainted, 4, 9));
+    let o = s.grant(6, segment(5, one(), 4));
+    let high = s.grant(6, segment(5, tainted, 1));
+    let other = s.grant(6, thread(5, one(), two()));
+    let raised = s.grant(6, thread(5, two(), two()));
+    s.refuse(NO_LIVE_THREAD, o, link(5, o, masked));
+    s.refuse(NO_ENTRY, 6, link(999, o, masked));
+    s.refuse(NO_ENTRY, 6, link(masked, o, masked));
+    s.refuse(NO_ENTRY, other, link(5, o, hidden));
+    s.refuse(WRONG_KIND, raised, link(5, raised, masked));
+    s.refuse(WRONG_KIND, 6, link(5, masked, masked));
+    s.refuse(LABEL_CONDITION, raised, link(5, o, masked));
+    s.refuse(LABEL_CONDITION, other, link(5, high, masked));
+    let before = s.world.next;
+    s.refuse(MASK_FORBIDS, 6, link(5, o, masked)); // unfixed, and too large
+    assert_eq!(s.world.next, before + 1);
+    s.refuse(MASK_FORBIDS, 6, link(5, o, hidden));
     s.grant(6, fix(5, o));
-    s.world.links.insert((d, o));
+    s.refuse(MASK_FORBIDS, other, link(5, o, masked)); // too large
+    s.grant(6, move_quota(5, masked, 2));
+    s.refuse(MASK_FORBIDS, 6, link(5, o, masked)); // nothing else against it
+    let others_forbidden = s.grant(6, container(5, one(), 11, 5));
+    s.grant(6, link(5, o, others_forbidden));
+}
+
+/// W2: "Links already there stay, and a book holding them is still sound." READINGS-02: "only the
+/// destination's mask counts, not that of the container it comes from."
+#[test]
+fn a_segment_from_before_stays_in_a_container_that_forbids_segments() {
+    let mut s = Script::new("a link from before", 5);
+    let masked = s.grant(6, container(5, one(), 4, 20));
+    let d = s.grant(6, container(5, one(), 0, 20));
+    let o = s.grant(6, segment(5, one(), 3));
+    let unfixed = s.grant(6, segment(5, one(), 2));
+    s.grant(6, fix(5, o));
+    s.world.links.insert((masked, o));
+    s.world.links.remove(&(5, unfixed));
+    s.world.links.insert((masked, unfixed));
     assert!(s.world.sound());
-    s.grant(6, resize(d, o, 3));
-    s.grant(6, write(d, o, 0, 0, &[1, 2, 3]));
-    s.refuse(MASK_FORBIDS, 6, link(5, o, d));
-    s.grant(6, link(d, o, other));
+    assert_eq!(s.world.spare(masked), 14);
+    s.refuse(MASK_FORBIDS, 6, link(5, o, masked)); // already there
+    s.refuse(MASK_FORBIDS, 6, link(masked, o, masked)); // already there
+    s.refuse(MASK_FORBIDS, 6, link(masked, unfixed, masked)); // already there, and unfixed
+    s.refuse(FIXED_OR_NOT, 6, link(masked, unfixed, d));
+    s.refuse(ALREADY_LINKED, 6, link(masked, o, 5));
+    s.grant(6, link(masked, o, d));
+    s.refuse(ALREADY_LINKED, 6, link(masked, o, d));
+    s.grant(6, resize(masked, o, 2));
+    s.grant(6, write(masked, o, 0, 0, &[7, 8]));
+    assert_eq!(s.output(6, read(masked, o, 0, 0, 2)), [7, 8]);
+    s.refuse(FIXED_OR_NOT, 6, move_quota(masked, o, 1));
+    s.grant(6, move_quota(masked, unfixed, 1));
+    s.grant(6, fix(masked, unfixed));
+    s.refuse(NOT_ENOUGH_SPARE, 6, container(masked, one(), 0, 14)); // both still charged
+    s.refuse(MASK_FORBIDS, 6, segment(masked, one(), 1));
+    s.grant(6, unreference(5, o));
     s.grant(6, unreference(d, o));
-    s.refuse(MASK_FORBIDS, 6, link(other, o, d));
+    s.grant(6, link(masked, o, 5));
+    s.grant(6, unreference(masked, o));
+    s.refuse(MASK_FORBIDS, 6, link(5, o, masked)); // it does not come back
+}
+
+#[test]
+fn the_roots_mask_counts_at_call_9_too() {
+    let mut s = Script::new("the root's mask", 5);
+    let o = s.grant(6, segment(5, one(), 3));
+    s.world.objects.get_mut(&5).unwrap().body = Body::Container { mask: 4 };
+    let d = s.grant(6, container(5, one(), 0, 9));
+    s.refuse(MASK_FORBIDS, 6, link(5, o, 5));
+    s.grant(6, fix(5, o));
+    s.refuse(MASK_FORBIDS, 6, link(5, o, 5));
+    s.refuse(MASK_FORBIDS, 6, link(5, o, d));
 }
 
 #[test]
