@@ -8,7 +8,7 @@ use crate::{need, take, Judged, Turn, LABEL_CONDITION, MALFORMED, MASK_FORBIDS, 
 const LARGEST_MASK: u64 = 15;
 const LARGEST_QUOTA: u64 = 255;
 const SEGMENT_DEFAULT_QUOTA: u16 = 5;
-const CONTAINER_DEFAULT_QUOTA: u16 = 16;
+const CONTAINER_DEFAULT_QUOTA: u16 = 8;
 static NO_TEXT: [u8; TEXT_LEN] = [0; TEXT_LEN];
 
 #[allow(clippy::too_many_arguments)]

@@ -1,13 +1,15 @@
 //! The byte kernel and the model answer alike, and the book spells the model's world after every call.
 
 use flytewood_bytekernel as bytes;
+use flytewood_model::ask::*;
 use flytewood_model::book::laid::laid;
 use flytewood_model::book::place::Order;
 use flytewood_model::book::*;
 use flytewood_model::drawn::Drawer;
 use flytewood_model::histories;
+use flytewood_model::labels::{Label, LEVEL_1, LEVEL_2};
 use flytewood_model::model::{Body, Call, Kind, Object, Outcome, World};
-use flytewood_model::model::{GRANTED, MASK_FORBIDS};
+use flytewood_model::model::{GRANTED, MASK_FORBIDS, NOT_ENOUGH_SPARE};
 use flytewood_model::random::Random;
 use flytewood_model::steered::steered;
 use std::collections::{BTreeMap, BTreeSet};
@@ -15,6 +17,8 @@ use std::collections::{BTreeMap, BTreeSet};
 const AREA_LEN: usize = 16_384;
 const CALLS: usize = 400;
 const FIRST: u64 = 5;
+/// The thread that the start makes.
+const INIT: u64 = FIRST + 1;
 
 struct Machine {
     book: Vec<u8>,
@@ -167,6 +171,38 @@ fn forbid_segments(world: &mut World, container: u64) {
     }
 }
 
+/// W7: "Quota 0 for a container shall mean 8 instead of 16, .." Some containers come to have 16 units, as
+/// those have that were made with 0 before.
+#[test]
+fn drawn_histories_with_containers_from_before() {
+    let (mut seen, mut containers_from_before) = (BTreeMap::new(), 0);
+    for seed in 200..300 {
+        let mut random = Random::new(seed);
+        let mut world = World::start(FIRST).expect("a first number");
+        drawn_calls(&mut random, &mut Machine::start(FIRST), &mut world, 600, &mut BTreeMap::new());
+        for container in world.containers() {
+            containers_from_before += usize::from(as_from_before(&mut world, container));
+        }
+        let (book, area) = laid(&mut random, &world, Order::Shuffled, 50);
+        assert!(passes(&book));
+        let mut machine = Machine { book, area };
+        drawn_calls(&mut random, &mut machine, &mut world, 600, &mut seen);
+    }
+    assert!(containers_from_before > 40, "only {}", containers_from_before);
+    assert!(seen.contains_key(&(4, GRANTED)) && seen.contains_key(&(4, NOT_ENOUGH_SPARE)), "{:?}", seen);
+}
+
+/// A container that has no more than 16 units gets them, if the one that it is in has the room.
+fn as_from_before(world: &mut World, container: u64) -> bool {
+    let room = world.holders_of(container).first().map_or(0, |parent| world.spare(*parent));
+    let quota = &mut world.objects.get_mut(&container).expect("a live container").quota;
+    let fits = (*quota..=*quota + room).contains(&CONTAINER_QUOTA_BEFORE_W7);
+    if fits {
+        *quota = CONTAINER_QUOTA_BEFORE_W7;
+    }
+    fits
+}
+
 #[test]
 fn steered_histories() {
     let mut random = Random::new(77);
@@ -221,4 +257,113 @@ fn verdicts_on_books() {
 fn passes(book: &[u8]) -> bool {
     let (mut copy, mut area, mut value) = (book.to_vec(), vec![0; AREA_LEN], 0);
     bytes::create_category(&mut copy, &mut area, 0, &mut value) != 1
+}
+
+/// The byte kernel and the model side by side, asked by the first thread.
+struct Both {
+    machine: Machine,
+    world: World,
+}
+
+impl Both {
+    fn start() -> Both {
+        Both { machine: Machine::start(FIRST), world: World::start(FIRST).expect("a first number") }
+    }
+
+    /// The call has this answer; gives its value.
+    fn says(&mut self, answer: u64, call: Call) -> u64 {
+        let outcome = same(&mut self.machine, &mut self.world, INIT, &call);
+        assert_eq!(outcome.answer, answer, "{:?}", call);
+        outcome.value
+    }
+
+    /// An object's quota and spare, as the book has them.
+    fn quota_and_spare(&self, id: u64) -> (u64, u64) {
+        let b = &self.machine.book;
+        let row = rows_in_use(b).into_iter().find(|row| get(b, ID, *row) == id).expect("a live object");
+        let quota = get(b, QUOTA, row);
+        (quota, quota - use_of(b, &links_in_use(b), row))
+    }
+
+    /// So many creates of one unit fit into the container, and then none of any kind.
+    fn takes_exactly(&mut self, d: u64, units: usize) {
+        for call in of_one_unit(d).into_iter().cycle().take(units) {
+            self.says(GRANTED, call);
+        }
+        for call in of_one_unit(d) {
+            self.says(NOT_ENOUGH_SPARE, call);
+        }
+    }
+}
+
+fn one() -> Label {
+    Label::plain(LEVEL_1)
+}
+
+/// A create of each kind, all of one unit.
+fn of_one_unit(d: u64) -> Vec<Call> {
+    let two = Label::plain(LEVEL_2);
+    vec![thread(d, one(), two), gate(d, one(), two, 1), segment(d, one(), 1), container(d, one(), 0, 1)]
+}
+
+/// The two bytes of row 2's quota. Row 2 is the first that is free after a start.
+fn quota_of_row_2(machine: &mut Machine) -> &mut [u8] {
+    &mut machine.book[2_836..2_838]
+}
+
+/// RULES 3.7: ".. 0 stands for a default: 8 for a container, 5 for a segment."
+#[test]
+fn a_container_made_with_0_has_8_units_and_7_to_spare() {
+    let mut both = Both::start();
+    let d = both.says(GRANTED, container(FIRST, one(), 0, 0));
+    assert_eq!(quota_of_row_2(&mut both.machine), [8, 0]);
+    assert_eq!((both.quota_and_spare(d), both.quota_and_spare(FIRST)), ((8, 7), (256, 246)));
+    both.takes_exactly(d, 7);
+    assert_eq!(both.quota_and_spare(d), (8, 0));
+}
+
+#[test]
+fn a_container_of_quota_0_fits_into_a_spare_of_8_and_not_of_7() {
+    let mut both = Both::start();
+    let d = both.says(GRANTED, container(FIRST, one(), 0, 8));
+    assert_eq!(both.quota_and_spare(d), (8, 7));
+    both.says(NOT_ENOUGH_SPARE, container(d, one(), 0, 0));
+    both.says(GRANTED, move_quota(FIRST, d, 1));
+    assert_eq!(both.quota_and_spare(d), (9, 8));
+    let inner = both.says(GRANTED, container(d, one(), 0, 0));
+    assert_eq!((both.quota_and_spare(d), both.quota_and_spare(inner)), ((9, 0), (8, 7)));
+}
+
+/// A book in which a container was made with 0 before W7: byte for byte as if 16 units had been asked for.
+fn from_before() -> (Both, u64) {
+    let mut both = Both::start();
+    let d = both.says(GRANTED, container(FIRST, one(), 0, 0));
+    quota_of_row_2(&mut both.machine).copy_from_slice(&[16, 0]);
+    both.world = both.machine.world();
+    let mut asked = Both::start();
+    asked.says(GRANTED, container(FIRST, one(), 0, CONTAINER_QUOTA_BEFORE_W7));
+    assert_eq!(quota_of_row_2(&mut asked.machine), [16, 0]);
+    assert!(both.machine.book == asked.machine.book && both.machine.area == asked.machine.area);
+    (both, d)
+}
+
+#[test]
+fn a_container_from_before_keeps_its_16_units() {
+    let (mut both, d) = from_before();
+    assert!(sound(&both.machine.book) && passes(&both.machine.book));
+    assert_eq!(both.quota_and_spare(d), (16, 15));
+    both.takes_exactly(d, 15);
+    assert_eq!(both.quota_and_spare(d), (16, 0));
+}
+
+#[test]
+fn a_segment_made_with_0_has_5_units_as_before() {
+    let mut both = Both::start();
+    let d = both.says(GRANTED, container(FIRST, one(), 0, 5));
+    both.says(NOT_ENOUGH_SPARE, segment(d, one(), 0)); // 4 to spare
+    both.says(GRANTED, move_quota(FIRST, d, 1));
+    let o = both.says(GRANTED, segment(d, one(), 0));
+    assert_eq!((both.quota_and_spare(d), both.quota_and_spare(o)), ((6, 0), (5, 4)));
+    both.says(GRANTED, resize(d, o, 256));
+    both.says(NOT_ENOUGH_SPARE, resize(d, o, 257));
 }

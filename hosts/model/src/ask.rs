@@ -3,6 +3,9 @@
 use crate::labels::Label;
 use crate::model::{Call, CLOSURE_LEN, DESCRIPTION_LEN, LOOK_LEN};
 
+/// What quota 0 gave a container before W7; a call that relied on it passes it now.
+pub const CONTAINER_QUOTA_BEFORE_W7: u64 = 16;
+
 pub fn zeros32() -> Vec<u8> {
     vec![0; DESCRIPTION_LEN]
 }

@@ -1,6 +1,7 @@
 //! Short histories made by hand, each with a theme. Their authors say what each call answers.
 
 mod creates;
+mod defaults;
 mod gates;
 mod labels;
 mod order;
@@ -20,6 +21,7 @@ pub fn by_hand() -> Vec<History> {
     histories.extend(gates::histories());
     histories.extend(order::histories());
     histories.extend(refusals::histories());
+    histories.extend(defaults::histories());
     histories
 }
 

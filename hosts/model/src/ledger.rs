@@ -1,7 +1,8 @@
 //! The spare reckoned from history (RULES 3.8), kept from the calls and their answers alone, beside the
 //! model.
 
-use crate::model::{Call, Outcome, World, GRANTED, ROOT_QUOTA};
+use crate::model::{Call, Outcome, World, GRANTED};
+use crate::model::{DEFAULT_CONTAINER_QUOTA, DEFAULT_SEGMENT_QUOTA, ROOT_QUOTA};
 use std::collections::BTreeMap;
 
 /// RULES 3.8: "Take the units it was created with .., add those moved into it, and subtract those moved back
@@ -45,12 +46,12 @@ impl Ledger {
         let new = outcome.value;
         match call {
             Call::CreateContainer { d, quota, .. } => {
-                let quota = or_default(*quota, 16);
+                let quota = or_default(*quota, DEFAULT_CONTAINER_QUOTA);
                 self.open(new, quota);
                 self.charge(*d, new, quota);
             }
             Call::CreateSegment { d, quota, .. } => {
-                let quota = or_default(*quota, 5);
+                let quota = or_default(*quota, DEFAULT_SEGMENT_QUOTA);
                 self.open(new, quota);
                 self.charge(*d, new, quota);
             }
@@ -98,9 +99,9 @@ impl Ledger {
     }
 }
 
-fn or_default(quota: u64, default: i64) -> i64 {
+fn or_default(quota: u64, default: u64) -> i64 {
     if quota == 0 {
-        default
+        default as i64
     } else {
         quota as i64
     }

@@ -9,6 +9,7 @@ mod segments;
 mod sound;
 mod threads;
 
+pub use creates::{DEFAULT_CONTAINER_QUOTA, DEFAULT_SEGMENT_QUOTA};
 pub use flytewood_calls::Call;
 pub use objects::{segment_use, Body, Kind, Object};
 

@@ -3,6 +3,7 @@
 use super::books::{all_books, start_book};
 use super::script::{replay, Script, Write};
 use super::*;
+use crate::ask::CONTAINER_QUOTA_BEFORE_W7;
 use crate::random::Random;
 
 fn start() -> Vec<u8> {
@@ -169,6 +170,19 @@ fn use_alone() {
     let long = with(start_and(SEGMENT, 1), &[(LEN, 2, 1), (OWNER, 7, 3)]);
     fails_only(&long, name);
     assert!(sound(&with(long, &[(QUOTA, 2, 2)])));
+}
+
+/// W7 changed what a create makes, not which books are sound. The container 102 is as one made with 0 before.
+#[test]
+fn a_container_from_before_w7_is_sound_and_has_16_units() {
+    let holding = |units| {
+        let row = [(ID, 3, 103), (KIND, 3, SEGMENT), (QUOTA, 3, units), (LABEL_DEFAULT, 3, 2)];
+        let link = [(NEXT, 0, 104), (LINK_FROM, 2, 3), (LINK_TO, 2, 3)];
+        with(with(start_and(CONTAINER, CONTAINER_QUOTA_BEFORE_W7), &row), &link)
+    };
+    assert!(sound(&start_and(CONTAINER, CONTAINER_QUOTA_BEFORE_W7)));
+    assert!(sound(&holding(15)));
+    fails_only(&holding(16), "use never exceeds quota");
 }
 
 #[test]

@@ -65,8 +65,8 @@ fn exact_fits() -> History {
     let mut s = Script::new("Creates fit exactly or not at all", FIRST);
     let d = s.grant(INIT, container(ROOT, one(), 0, 22));
     s.refuse(NOT_ENOUGH_SPARE, INIT, container(d, one(), 0, 22));
-    s.grant(INIT, container(d, one(), 0, 0));
-    s.refuse(NOT_ENOUGH_SPARE, INIT, container(d, one(), 0, 0));
+    s.grant(INIT, container(d, one(), 0, CONTAINER_QUOTA_BEFORE_W7));
+    s.refuse(NOT_ENOUGH_SPARE, INIT, container(d, one(), 0, CONTAINER_QUOTA_BEFORE_W7));
     s.grant(INIT, segment(d, one(), 0));
     s.refuse(NOT_ENOUGH_SPARE, INIT, segment(d, one(), 1));
     s.refuse(NOT_ENOUGH_SPARE, INIT, gate(d, one(), two(), 0));

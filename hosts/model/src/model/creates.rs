@@ -4,10 +4,10 @@ use super::{granted, lent_label, lent_starless, need, Body, Caller, Judged, Kind
 use super::{CLOSURE_LEN, DESCRIPTION_LEN, LABEL_CONDITION, MALFORMED, MASK_FORBIDS, NOT_ENOUGH_SPARE};
 use crate::labels::*;
 
-/// RULES 3.7: "The quota given to call 4 or 5 is at most 255, and 0 stands for a default: 16 for a container,
+/// RULES 3.7: "The quota given to call 4 or 5 is at most 255, and 0 stands for a default: 8 for a container,
 /// 5 for a segment."
-const DEFAULT_SEGMENT_QUOTA: u64 = 5;
-const DEFAULT_CONTAINER_QUOTA: u64 = 16;
+pub const DEFAULT_SEGMENT_QUOTA: u64 = 5;
+pub const DEFAULT_CONTAINER_QUOTA: u64 = 8;
 const MOST_QUOTA: u64 = 255;
 /// RULES 1.6: "A container also has a mask, a number from 0 to 15 that forbids kinds: .."
 const MOST_MASK: u64 = 15;

@@ -76,11 +76,11 @@ fn bytes_cut_off_come_back_as_zeros_also_in_a_block_that_stayed() {
 }
 
 #[test]
-fn the_defaults_of_a_create_are_5_and_16() {
+fn the_defaults_of_a_create_are_5_and_8() {
     let mut s = Script::new("defaults", 5);
     let o = s.grant(6, segment(5, one(), 0));
     let d = s.grant(6, container(5, one(), 0, 0));
-    assert_eq!((s.world.objects[&o].quota, s.world.objects[&d].quota), (5, 16));
+    assert_eq!((s.world.objects[&o].quota, s.world.objects[&d].quota), (5, 8));
 }
 
 #[test]

@@ -57,6 +57,27 @@ fn spare_shrinks_only_by_those_who_may_write() {
     }
 }
 
+/// RULES 3.7: ".. 0 stands for a default: 8 for a container, .."
+#[test]
+fn quota_0_is_drawn_for_containers_and_means_8() {
+    let (mut made, mut refused) = (0, 0);
+    for seed in 300..420 {
+        drawn_history(seed, 250, |before, after, _, call, outcome| match (call, outcome.answer) {
+            (Call::CreateContainer { d, quota: 0, .. }, GRANTED) => {
+                assert!(before.spare(*d) >= 8);
+                assert_eq!(after.objects[&outcome.value].quota, 8);
+                made += 1;
+            }
+            (Call::CreateContainer { d, quota: 0, .. }, NOT_ENOUGH_SPARE) => {
+                assert!(before.spare(*d) < 8);
+                refused += 1;
+            }
+            _ => {}
+        });
+    }
+    assert!(made > 0 && refused > 0, "{} made, {} refused", made, refused);
+}
+
 #[test]
 fn every_call_has_a_number_of_its_own() {
     for seed in 200..220 {
