@@ -34,8 +34,8 @@ use tables::TEXT_SIZE;
 // The largest mask, as wide as the one that is lent.
 const MASK_MOST: u64 = MAX_MASK as u64;
 
-// RULES 3.7: ".. 0 stands for a default: 16 for a container, 5 for a segment."
-const DEFAULT_QUOTA: u64 = 16;
+// RULES 3.7: ".. 0 stands for a default: 8 for a container, 5 for a segment."
+const DEFAULT_QUOTA: u64 = 8;
 
 fn good_arguments(next: u64, label: &[u8], description: &[u8], mask: u64, quota: u64) -> bool
     ensures { λ r. ⌜ r ≡ (goodLabel next false (now (label .entry)) && (goodText (now (description .entry)) && (leb mask maxMask && leb quota maxQuota))) ⌝ }

@@ -28,7 +28,7 @@ use labels::Label;
 use labels::bytes::from_bytes;
 use tables::TEXT_SIZE;
 
-// RULES 3.7: ".. 0 stands for a default: 16 for a container, 5 for a segment."
+// RULES 3.7: ".. 0 stands for a default: 8 for a container, 5 for a segment."
 const DEFAULT_QUOTA: u64 = 5;
 
 fn good_arguments(next: u64, label: &[u8], description: &[u8], quota: u64) -> bool

@@ -5,6 +5,7 @@ pub mod Play
 pub mod Grantday
 pub mod Errors
 pub mod Masks
+pub mod Defaults
 pub mod Model1
 pub mod Model2
 pub mod Model3

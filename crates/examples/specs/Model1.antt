@@ -301,8 +301,8 @@ h09 : List Turn
 h09 =
     turn 6 (createContainer 5 (lent 2 []) zeros32 0 22)
     ∷ turn 6 (createContainer 7 (lent 2 []) zeros32 0 22)
-    ∷ turn 6 (createContainer 7 (lent 2 []) zeros32 0 0)
-    ∷ turn 6 (createContainer 7 (lent 2 []) zeros32 0 0)
+    ∷ turn 6 (createContainer 7 (lent 2 []) zeros32 0 16)
+    ∷ turn 6 (createContainer 7 (lent 2 []) zeros32 0 16)
     ∷ turn 6 (createSegment 7 (lent 2 []) zeros32 0)
     ∷ turn 6 (createSegment 7 (lent 2 []) zeros32 1)
     ∷ turn 6 (createGate 7 (lent 2 []) (lent 3 []) 0 zeros32 zeros32)

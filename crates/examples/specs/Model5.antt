@@ -8,9 +8,58 @@ use Rattle.quotas.specs.Any.{any, both, either}
 use Rattle.rules.specs.Kernel.{createCategory, setLabel, setClearance, createContainer, createSegment, createGate, createThread, unreference, linkSegment, fixQuota, moveQuota, read, write, resize, enterGate, look, start, call, after, tests, judge, unless, must, whyNot, mustHold, opens, entry, make, move, access, forbids, fits, spareOf, useOf, charged, units, answerOf, valueOf, outputOf, leaves, apply, put, linkIn, under, below, stays, kept, edit, goodArguments, goodLabel, goodText, holds, allHold, flow, reading, writing, floorFlow, flowJoin, flowJoinHigh, containerOf, segmentOf, gateOf, threadOf, clearedAt, lookBytes, overwrite, resized, orDefault, kindCode, isLive, isThread, isGate, isSegment, isContainer, hasClearance, blank, nothing}
 use Rattle.examples.specs.Play.{Turn, Said, Day, turn, said, day, run, played, written, wordsFor, lent, zeros32, into, back}
 
--- Drawn 1: 25 calls with the answers 0, 7
+-- A container made with quota 0 has 8 units, and one made with 16 has 16
 h41 : List Turn
 h41 =
+    turn 6 (createContainer 5 (lent 2 []) zeros32 0 0)
+    ∷ turn 6 (createContainer 7 (lent 2 []) zeros32 0 0)
+    ∷ turn 6 (moveQuota 5 7 (into 1))
+    ∷ turn 6 (createContainer 7 (lent 2 []) zeros32 0 0)
+    ∷ turn 6 (createGate 7 (lent 2 []) (lent 3 []) 0 zeros32 zeros32)
+    ∷ turn 6 (createThread 10 (lent 2 []) (lent 3 []) zeros32)
+    ∷ turn 6 (createGate 10 (lent 2 []) (lent 3 []) 0 zeros32 zeros32)
+    ∷ turn 6 (createContainer 10 (lent 2 []) zeros32 0 1)
+    ∷ turn 6 (createSegment 10 (lent 2 []) zeros32 1)
+    ∷ turn 6 (createSegment 10 (lent 2 []) zeros32 1)
+    ∷ turn 6 (createSegment 10 (lent 2 []) zeros32 1)
+    ∷ turn 6 (createSegment 10 (lent 2 []) zeros32 1)
+    ∷ turn 6 (createSegment 10 (lent 2 []) zeros32 1)
+    ∷ turn 6 (createContainer 5 (lent 2 []) zeros32 0 16)
+    ∷ turn 6 (createContainer 20 (lent 2 []) zeros32 0 16)
+    ∷ turn 6 (createContainer 20 (lent 2 []) zeros32 0 0)
+    ∷ turn 6 (createContainer 20 (lent 2 []) zeros32 0 0)
+    ∷ turn 6 (createSegment 20 (lent 2 []) zeros32 0)
+    ∷ turn 6 (createSegment 20 (lent 2 []) zeros32 3)
+    ∷ turn 6 (createSegment 20 (lent 2 []) zeros32 2)
+    ∷ []
+
+h41-said : List Said
+h41-said =
+    said 0 7 []
+    ∷ said 13 0 []
+    ∷ said 0 0 []
+    ∷ said 0 10 []
+    ∷ said 13 0 []
+    ∷ said 0 12 []
+    ∷ said 0 13 []
+    ∷ said 0 14 []
+    ∷ said 0 15 []
+    ∷ said 0 16 []
+    ∷ said 0 17 []
+    ∷ said 0 18 []
+    ∷ said 13 0 []
+    ∷ said 0 20 []
+    ∷ said 13 0 []
+    ∷ said 0 22 []
+    ∷ said 13 0 []
+    ∷ said 0 24 []
+    ∷ said 13 0 []
+    ∷ said 0 26 []
+    ∷ []
+
+-- Drawn 1: 25 calls with the answers 0, 7
+h42 : List Turn
+h42 =
     turn 6 (createGate 5 (lent 2 []) (lent 2 []) 0 zeros32 zeros32)
     ∷ turn 6 (createContainer 5 (lent 2 []) zeros32 2 250)
     ∷ turn 6 createCategory
@@ -35,11 +84,11 @@ h41 =
     ∷ turn 10 (setClearance (lent 1 ((3, 4) ∷ [])))
     ∷ turn 6 (unreference 5 7)
     ∷ turn 10 (createContainer 5 (lent 2 []) zeros32 2 0)
-    ∷ turn 6 (createThread 5 (lent 2 []) (lent 2 []) zeros32)
+    ∷ turn 10 (createSegment 5 (lent 2 []) zeros32 2)
     ∷ []
 
-h41-said : List Said
-h41-said =
+h42-said : List Said
+h42-said =
     said 0 7 []
     ∷ said 0 8 []
     ∷ said 0 9 []
@@ -64,12 +113,12 @@ h41-said =
     ∷ said 7 0 []
     ∷ said 0 0 []
     ∷ said 7 0 []
-    ∷ said 0 31 []
+    ∷ said 7 0 []
     ∷ []
 
 -- Drawn 2: 22 calls with the answers 0, 7, 9, 10, 11
-h42 : List Turn
-h42 =
+h43 : List Turn
+h43 =
     turn 6 (createThread 5 (lent 2 []) (lent 3 []) zeros32)
     ∷ turn 7 (createGate 5 (lent 2 []) (lent 3 []) 3 zeros32 zeros32)
     ∷ turn 7 createCategory
@@ -94,8 +143,8 @@ h42 =
     ∷ turn 7 (linkSegment 5 10 5)
     ∷ []
 
-h42-said : List Said
-h42-said =
+h43-said : List Said
+h43-said =
     said 0 7 []
     ∷ said 0 8 []
     ∷ said 0 9 []
@@ -121,8 +170,8 @@ h42-said =
     ∷ []
 
 -- Drawn 3: 24 calls with the answers 0, 7, 13
-h43 : List Turn
-h43 =
+h44 : List Turn
+h44 =
     turn 6 (createContainer 5 (lent 2 []) zeros32 0 2)
     ∷ turn 6 (createThread 5 (lent 2 []) (lent 2 []) zeros32)
     ∷ turn 8 (moveQuota 5 7 (into 40))
@@ -141,16 +190,16 @@ h43 =
     ∷ turn 6 (createContainer 5 (lent 2 []) zeros32 15 250)
     ∷ turn 8 (moveQuota 5 7 (into 256))
     ∷ turn 6 (setClearance (lent 3 []))
-    ∷ turn 8 (createSegment 7 (lent 2 []) zeros32 250)
+    ∷ turn 8 (createThread 7 (lent 3 []) (lent 2 []) zeros32)
     ∷ turn 8 (createContainer 5 (lent 3 []) zeros32 2 2)
     ∷ turn 8 (createSegment 7 (lent 3 []) zeros32 1)
-    ∷ turn 8 (createThread 5 (lent 4 []) (lent 2 []) zeros32)
+    ∷ turn 8 (createSegment 7 (lent 2 []) zeros32 250)
     ∷ turn 8 (moveQuota 5 7 (into 1))
     ∷ turn 8 (setLabel (lent 2 []))
     ∷ []
 
-h43-said : List Said
-h43-said =
+h44-said : List Said
+h44-said =
     said 0 7 []
     ∷ said 0 8 []
     ∷ said 0 0 []
@@ -169,17 +218,17 @@ h43-said =
     ∷ said 13 0 []
     ∷ said 13 0 []
     ∷ said 0 0 []
+    ∷ said 7 0 []
+    ∷ said 7 0 []
+    ∷ said 7 0 []
     ∷ said 13 0 []
-    ∷ said 7 0 []
-    ∷ said 7 0 []
-    ∷ said 7 0 []
     ∷ said 0 0 []
     ∷ said 0 0 []
     ∷ []
 
 -- Drawn 4: 23 calls with the answers 0, 7, 11, 13
-h44 : List Turn
-h44 =
+h45 : List Turn
+h45 =
     turn 6 (createThread 5 (lent 2 []) (lent 3 []) zeros32)
     ∷ turn 7 (createContainer 5 (lent 2 []) zeros32 0 9)
     ∷ turn 6 (createSegment 8 (lent 2 []) zeros32 2)
@@ -191,22 +240,22 @@ h44 =
     ∷ turn 7 (createSegment 8 (lent 2 []) zeros32 3)
     ∷ turn 7 (setClearance (lent 2 ((11, 4) ∷ [])))
     ∷ turn 7 (write 8 9 2 0 0 [])
-    ∷ turn 7 (moveQuota 8 15 (back 2))
-    ∷ turn 7 (setLabel (lent 2 ((11, 4) ∷ [])))
     ∷ turn 6 (unreference 5 8)
+    ∷ turn 7 (setLabel (lent 2 ((11, 4) ∷ [])))
+    ∷ turn 7 (createGate 5 (lent 2 ((11, 4) ∷ [])) (lent 2 ((11, 4) ∷ [])) 3 zeros32 zeros32)
     ∷ turn 6 (createContainer 5 (lent 4 ((3, 1) ∷ (11, 2) ∷ [])) zeros32 8 20)
     ∷ turn 7 (unreference 5 10)
     ∷ turn 6 (createContainer 5 (lent 2 []) zeros32 8 255)
-    ∷ turn 7 (createGate 5 (lent 2 ((11, 4) ∷ [])) (lent 2 ((11, 4) ∷ [])) 6 zeros32 zeros32)
-    ∷ turn 7 (createThread 5 (lent 2 ((11, 4) ∷ [])) (lent 2 []) zeros32)
-    ∷ turn 7 (setClearance (lent 2 []))
-    ∷ turn 7 (createSegment 5 (lent 2 []) zeros32 1)
-    ∷ turn 7 (enterGate 5 10 (lent 2 []) (lent 2 ((11, 4) ∷ [])) (lent 2 ((11, 4) ∷ [])) 32)
-    ∷ turn 7 (setLabel (lent 2 []))
+    ∷ turn 6 (unreference 5 7)
+    ∷ turn 6 (setLabel (lent 3 []))
+    ∷ turn 6 (createThread 5 (lent 3 []) (lent 3 []) zeros32)
+    ∷ turn 6 (createSegment 5 (lent 2 []) zeros32 1)
+    ∷ turn 6 (enterGate 5 10 (lent 3 []) (lent 4 []) (lent 3 []) 32)
+    ∷ turn 6 (setLabel (lent 2 []))
     ∷ []
 
-h44-said : List Said
-h44-said =
+h45-said : List Said
+h45-said =
     said 0 7 []
     ∷ said 0 8 []
     ∷ said 0 9 []
@@ -220,21 +269,21 @@ h44-said =
     ∷ said 11 0 []
     ∷ said 0 0 []
     ∷ said 0 0 []
-    ∷ said 0 0 []
+    ∷ said 7 0 []
     ∷ said 7 0 []
     ∷ said 7 0 []
     ∷ said 13 0 []
-    ∷ said 7 0 []
-    ∷ said 7 0 []
+    ∷ said 0 0 []
+    ∷ said 0 0 []
     ∷ said 7 0 []
     ∷ said 7 0 []
     ∷ said 7 0 []
     ∷ said 7 0 []
     ∷ []
 
--- Drawn 5: 25 calls with the answers 0, 7
-h45 : List Turn
-h45 =
+-- Drawn 5: 24 calls with the answers 0, 7
+h46 : List Turn
+h46 =
     turn 6 (createGate 5 (lent 2 []) (lent 2 []) 0 zeros32 zeros32)
     ∷ turn 6 (createContainer 5 (lent 2 []) zeros32 15 3)
     ∷ turn 6 (moveQuota 5 8 (into 3))
@@ -247,8 +296,8 @@ h45 =
     ∷ turn 6 (setLabel (lent 2 ((10, 3) ∷ [])))
     ∷ turn 6 (read 5 11 1 1 1)
     ∷ turn 6 (setClearance (lent 3 []))
-    ∷ turn 13 (linkSegment 5 11 5)
-    ∷ turn 13 (fixQuota 5 11)
+    ∷ turn 6 (fixQuota 5 11)
+    ∷ turn 6 (linkSegment 5 11 8)
     ∷ turn 6 (moveQuota 5 8 (into 8))
     ∷ turn 6 (resize 5 11 65)
     ∷ turn 6 (unreference 5 13)
@@ -257,13 +306,12 @@ h45 =
     ∷ turn 13 (createContainer 5 (lent 3 []) zeros32 0 3)
     ∷ turn 13 (createThread 8 (lent 3 []) (lent 3 []) zeros32)
     ∷ turn 6 (createSegment 5 (lent 2 []) zeros32 3)
-    ∷ turn 13 (enterGate 5 7 (lent 3 []) (lent 3 []) (lent 3 []) 32)
+    ∷ turn 6 (setLabel (lent 2 []))
     ∷ turn 6 (setLabel (lent 3 []))
-    ∷ turn 6 (fixQuota 5 11)
     ∷ []
 
-h45-said : List Said
-h45-said =
+h46-said : List Said
+h46-said =
     said 0 7 []
     ∷ said 0 8 []
     ∷ said 0 0 []
@@ -288,56 +336,57 @@ h45-said =
     ∷ said 7 0 []
     ∷ said 7 0 []
     ∷ said 0 0 []
-    ∷ said 7 0 []
     ∷ []
 
--- Drawn 6: 20 calls with the answers 0, 8, 9, 10, 11, 13
-h46 : List Turn
-h46 =
-    turn 6 (createGate 5 (lent 2 []) (lent 3 []) 8 zeros32 zeros32)
-    ∷ turn 6 createCategory
-    ∷ turn 6 (createThread 5 (lent 2 []) (lent 2 []) zeros32)
-    ∷ turn 6 (createSegment 5 (lent 2 []) zeros32 20)
-    ∷ turn 9 (moveQuota 5 10 (back 4))
-    ∷ turn 9 (fixQuota 5 10)
-    ∷ turn 9 (resize 5 10 2)
-    ∷ turn 6 (createGate 5 (lent 2 ((8, 4) ∷ [])) (lent 3 ((8, 4) ∷ [])) 5 zeros32 zeros32)
-    ∷ turn 9 (createContainer 5 (lent 2 []) zeros32 8 0)
+-- Drawn 6: 21 calls with the answers 0, 7, 8, 9, 13
+h47 : List Turn
+h47 =
+    turn 6 (createGate 5 (lent 2 []) (lent 2 []) 0 zeros32 zeros32)
+    ∷ turn 6 (createSegment 5 (lent 2 []) zeros32 4)
+    ∷ turn 6 (resize 5 8 2)
+    ∷ turn 6 (createContainer 5 (lent 2 []) zeros32 4 60)
+    ∷ turn 6 (createThread 5 (lent 2 []) (lent 3 []) zeros32)
+    ∷ turn 11 (moveQuota 5 10 (back 4))
+    ∷ turn 11 createCategory
+    ∷ turn 11 (write 5 8 0 0 1 (221 ∷ []))
+    ∷ turn 6 (fixQuota 5 8)
+    ∷ turn 6 (createSegment 10 (lent 2 []) zeros32 1)
+    ∷ turn 11 (setLabel (lent 2 ((13, 1) ∷ [])))
+    ∷ turn 6 (moveQuota 5 8 (into 1))
+    ∷ turn 6 (unreference 5 8)
     ∷ turn 6 (setClearance (lent 2 []))
-    ∷ turn 6 (unreference 5 6)
-    ∷ turn 9 (write 5 10 0 0 1 (64 ∷ []))
-    ∷ turn 9 (linkSegment 5 10 15)
-    ∷ turn 9 (createContainer 15 (lent 2 []) zeros32 4 60)
-    ∷ turn 9 (moveQuota 5 10 (into 2))
-    ∷ turn 9 (write 5 10 2 63 0 [])
-    ∷ turn 9 (read 5 10 0 60 0)
-    ∷ turn 9 (setLabel (lent 2 []))
-    ∷ turn 9 (createSegment 15 (lent 2 []) zeros32 60)
-    ∷ turn 9 (linkSegment 5 10 5)
+    ∷ turn 6 (createContainer 10 (lent 2 []) zeros32 4 60)
+    ∷ turn 6 (createGate 5 (lent 2 []) (lent 3 []) 8 zeros32 zeros32)
+    ∷ turn 6 (createContainer 5 (lent 3 []) zeros32 0 255)
+    ∷ turn 11 (setLabel (lent 2 []))
+    ∷ turn 6 (enterGate 5 7 (lent 2 []) (lent 3 []) (lent 2 []) 32)
+    ∷ turn 6 (createThread 5 (lent 3 []) (lent 2 []) zeros32)
+    ∷ turn 6 (createSegment 5 (lent 2 []) zeros32 250)
     ∷ []
 
-h46-said : List Said
-h46-said =
+h47-said : List Said
+h47-said =
     said 0 7 []
     ∷ said 0 8 []
-    ∷ said 0 9 []
+    ∷ said 0 0 []
     ∷ said 0 10 []
+    ∷ said 0 11 []
+    ∷ said 0 0 []
+    ∷ said 0 13 []
     ∷ said 0 0 []
     ∷ said 0 0 []
-    ∷ said 0 0 []
-    ∷ said 0 14 []
-    ∷ said 0 15 []
-    ∷ said 0 0 []
-    ∷ said 0 0 []
-    ∷ said 0 0 []
-    ∷ said 13 0 []
     ∷ said 8 0 []
+    ∷ said 0 0 []
     ∷ said 9 0 []
-    ∷ said 11 0 []
-    ∷ said 11 0 []
+    ∷ said 0 0 []
     ∷ said 0 0 []
     ∷ said 13 0 []
-    ∷ said 10 0 []
+    ∷ said 7 0 []
+    ∷ said 7 0 []
+    ∷ said 0 0 []
+    ∷ said 7 0 []
+    ∷ said 7 0 []
+    ∷ said 13 0 []
     ∷ []
 
 pub days : List Day
@@ -348,8 +397,9 @@ days =
     ∷ day 5 h44 h44-said
     ∷ day 5 h45 h45-said
     ∷ day 5 h46 h46-said
+    ∷ day 5 h47 h47-said
     ∷ []
 
 pub model-agrees : played days ≡ written days
-unfolding days h41 h41-said h42 h42-said h43 h43-said h44 h44-said h45 h45-said h46 h46-said run played written wordsFor lent zeros32 start call after tests judge unless must whyNot mustHold opens entry make move access forbids fits spareOf useOf charged units answerOf valueOf outputOf leaves apply put linkIn under below stays kept edit goodArguments goodLabel goodText holds allHold flow reading writing floorFlow flowJoin flowJoinHigh containerOf segmentOf gateOf threadOf clearedAt lookBytes overwrite resized orDefault kindCode isLive isThread isGate isSegment isContainer hasClearance blank nothing Σ when any both either leAt leBytes levelAt everyNamed holdsB compareB zerosB wordsB formedB insertW roomB wordsAt labelOf wordsBytes labelBytes
+unfolding days h41 h41-said h42 h42-said h43 h43-said h44 h44-said h45 h45-said h46 h46-said h47 h47-said run played written wordsFor lent zeros32 start call after tests judge unless must whyNot mustHold opens entry make move access forbids fits spareOf useOf charged units answerOf valueOf outputOf leaves apply put linkIn under below stays kept edit goodArguments goodLabel goodText holds allHold flow reading writing floorFlow flowJoin flowJoinHigh containerOf segmentOf gateOf threadOf clearedAt lookBytes overwrite resized orDefault kindCode isLive isThread isGate isSegment isContainer hasClearance blank nothing Σ when any both either leAt leBytes levelAt everyNamed holdsB compareB zerosB wordsB formedB insertW roomB wordsAt labelOf wordsBytes labelBytes
 model-agrees = refl

@@ -33,6 +33,11 @@ run (t ∷ ts) w =
     said (answerOf (call w (t .caller) (t .call))) (valueOf (call w (t .caller) (t .call))) (outputOf (call w (t .caller) (t .call)))
     ∷ run ts (after w (t .caller) (t .call))
 
+-- the world that turns lead to
+unfoldable pub end : List Turn → World → World
+end [] w = w
+end (t ∷ ts) w = end ts (after w (t .caller) (t .call))
+
 -- a history from a start, and what each of its calls should say
 pub record Day : Type 0 where
   pub first : ℕ

@@ -28,7 +28,7 @@ use Rattle.rules.specs.Theorems.StaysSound.{start-is-sound, history-sound}
 use Rattle.tainted.specs.Tainted.{untainted, untaintedContainer, untaintedCaller, taintedCaller, UntaintedStart, AlikeHistories, same-start, SameUntainted}
 use Rattle.tainted.specs.Tainted as taint
 use Rattle.tainted.specs.Theorem.{tainted-work-does-not-show}
-use Rattle.examples.specs.Play.{Turn, Said, turn, said, run, wordsFor, lent, zeros32}
+use Rattle.examples.specs.Play.{Turn, Said, turn, said, run, end, wordsFor, lent, zeros32}
 
 -- ---- the terms of the start, as tests that compute
 
@@ -82,12 +82,7 @@ rights [] = []
 rights (one c x ∷ ts) = turn c x ∷ rights ts
 rights (two c x y ∷ ts) = turn c y ∷ rights ts
 
--- the world that turns lead to
-unfoldable pub end : List Turn → World → World
-end [] w = w
-end (t ∷ ts) w = end ts (after w (t .caller) (t .call))
-
--- the same of a history
+-- the history that turns lead to
 unfoldable pub grown : History → List Turn → History
 grown h [] = h
 grown h (t ∷ ts) = grown (next h (t .caller) (t .call)) ts

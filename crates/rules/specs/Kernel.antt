@@ -44,13 +44,13 @@ lastNumber = 2305843009213693951
 abbrev pub rootQuota : ℕ
 rootQuota = 256
 
--- RULES 3.7: "The quota given to call 4 or 5 is at most 255, and 0 stands for a default: 16 for a container,
+-- RULES 3.7: "The quota given to call 4 or 5 is at most 255, and 0 stands for a default: 8 for a container,
 -- 5 for a segment."
 abbrev pub segmentDefault : ℕ
 segmentDefault = 5
 
 abbrev pub containerDefault : ℕ
-containerDefault = 16
+containerDefault = 8
 
 abbrev pub maxQuota : ℕ
 maxQuota = 255

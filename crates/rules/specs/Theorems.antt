@@ -13,3 +13,4 @@ pub mod Exactly
 pub mod Granted
 pub mod Unreadable
 pub mod Masks
+pub mod Defaults
