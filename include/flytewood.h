@@ -105,7 +105,7 @@ extern "C" {
 #define FW_QUOTA_MAX 255            /* of a create */
 #define FW_QUOTA_DEFAULT 0          /* a create's quota 0 means one of the next two */
 #define FW_SEGMENT_DEFAULT_QUOTA 5
-#define FW_CONTAINER_DEFAULT_QUOTA 16
+#define FW_CONTAINER_DEFAULT_QUOTA 8
 #define FW_MOVE_MAX 256             /* n of call 11 is from -256 to 256 */
 
 /* Answers, in the order of check. */
@@ -156,17 +156,17 @@ uint64_t fw_set_clearance(uint8_t *book, uint64_t book_len, uint8_t *area, uint6
                           const uint8_t *clearance, uint64_t clearance_len, uint64_t *value);
 
 /*
- * Call 4, create a container in d. It also gets d's mask bits. Quota 0 means 16, otherwise 1 to 255; mask at most 15.
- * Value: the container's id. Answers 4 also for star in the label; 5 unless d is readable; 7 unless the caller may
- * write d, flows to the label, and the label flows to the caller's clearance; 8 if d's mask forbids containers; 13 if
- * the quota is above d's spare.
+ * Call 4, create a container in d. It also gets d's mask bits; mask at most 15. Quota 1 to 255, or 0, which means
+ * FW_CONTAINER_DEFAULT_QUOTA: a host that counts on a number of units passes that number. Value: the container's id.
+ * Answers 4 also for star in the label; 5 unless d is readable; 7 unless the caller may write d, flows to the label,
+ * and the label flows to the caller's clearance; 8 if d's mask forbids containers; 13 if the quota is above d's spare.
  */
 uint64_t fw_create_container(uint8_t *book, uint64_t book_len, uint8_t *area, uint64_t area_len, uint64_t caller,
                              uint64_t d, const uint8_t *label, uint64_t label_len, const uint8_t *description,
                              uint64_t description_len, uint64_t mask, uint64_t quota, uint64_t *value);
 
 /*
- * Call 5, create a segment of length 0 in d. Quota 0 means 5, otherwise 1 to 255.
+ * Call 5, create a segment of length 0 in d. Quota 1 to 255, or 0, which means FW_SEGMENT_DEFAULT_QUOTA.
  * Value: the segment's id. Answers as call 4, with 8 if d's mask forbids segments.
  */
 uint64_t fw_create_segment(uint8_t *book, uint64_t book_len, uint8_t *area, uint64_t area_len, uint64_t caller,

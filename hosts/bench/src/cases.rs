@@ -6,6 +6,8 @@ use flytewood_model::ask;
 use flytewood_model::model::{Call, BEYOND_THE_LENGTH, GRANTED, NOT_ENOUGH_SPARE};
 
 pub const SIZES: [usize; 4] = [2, 16, 64, 256];
+/// The units of the container in a small case: more than the call that is timed needs.
+const SMALL_ROOM: u64 = 16;
 
 /// A call on a book; `objects` is how many it has when the call comes in.
 pub struct Case {
@@ -106,8 +108,8 @@ fn small_cases() -> Vec<Case> {
     // The first object that is made has the first number.
     let s = CALLER + 1;
     let segment = [ask::segment(ROOT, l(), 2), ask::resize(ROOT, s, 64)];
-    let linkable = [ask::segment(ROOT, l(), 2), ask::fix(ROOT, s), ask::container(ROOT, l(), 0, 16)];
-    let container = [ask::container(ROOT, l(), 0, 16)];
+    let linkable = [ask::segment(ROOT, l(), 2), ask::fix(ROOT, s), ask::container(ROOT, l(), 0, SMALL_ROOM)];
+    let container = [ask::container(ROOT, l(), 0, SMALL_ROOM)];
     let gate = [ask::gate(ROOT, l(), c(), 7)];
     let new = |name, calls: &[Call], call| small(name, calls, call, GRANTED);
     vec![

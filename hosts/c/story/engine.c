@@ -2,6 +2,8 @@
 
 #include <string.h>
 
+#define DEFAULT_BEFORE_W7 16 /* units of a container that was created with quota 0 */
+
 int engine_start(engine *e, uint64_t first, wrong_engine wrong)
 {
     reply made;
@@ -100,10 +102,15 @@ uint64_t units_for(const result *r)
     return 1 + 1 + (1 + blocks_for(r->report_len)) + (1 + r->depends.count);
 }
 
+static uint64_t quota_passed(const engine *e, uint64_t quota)
+{
+    return e->wrong == WRONG_DEFAULT_ROOM && quota == DEFAULT_BEFORE_W7 ? FW_QUOTA_DEFAULT : quota;
+}
+
 reply grant_room(engine *e, job *j, uint64_t quota)
 {
     fwh_label room = room_label(e, j), label = thread_label(e, j), clearance = thread_clearance(j);
-    reply made = make_container(&e->k, e->self, e->root, &room, j->cmd.job, quota);
+    reply made = make_container(&e->k, e->self, e->root, &room, j->cmd.job, quota_passed(e, quota));
     if (made.answer != FW_GRANTED) {
         return made;
     }

@@ -11,7 +11,8 @@ typedef enum {
     WRONG_OPEN_ROOM,  /* rooms without a category of their own: a neighbour may write in them */
     WRONG_SHORT_LIST, /* keeps a result whose list did not fit */
     WRONG_NO_MACROS,  /* never lists the macros */
-    WRONG_ALWAYS_FRESH /* hands out what it has without looking at the list */
+    WRONG_ALWAYS_FRESH, /* hands out what it has without looking at the list */
+    WRONG_DEFAULT_ROOM /* passes quota 0 for a room of 16 units, which it stood for before W7 */
 } wrong_engine;
 
 /* Who may see a job's results: any job, or only one that owns the job's category. */

@@ -11,7 +11,7 @@
 #define FIRST_NUMBER 1000
 #define RESERVE 4 /* units that the engine keeps in the root for itself */
 
-#define USAGE "usage: story [--quiet] [--wrong open-room|short-list|no-macros|always-fresh] [INPUTS]\n"
+#define USAGE "usage: story [--quiet] [--wrong open-room|short-list|no-macros|always-fresh|default-room] [INPUTS]\n"
 
 /* Everybody in the story. The jobs are the first three of the command file, in its order. */
 typedef struct {
@@ -409,7 +409,8 @@ static int tell_all(wrong_engine wrong)
 
 static int wrong_by_name(const char *name, wrong_engine *wrong)
 {
-    static const char *const names[] = {"nothing", "open-room", "short-list", "no-macros", "always-fresh"};
+    static const char *const names[] = {"nothing",   "open-room",    "short-list",
+                                        "no-macros", "always-fresh", "default-room"};
     for (size_t i = 1; i < sizeof names / sizeof names[0]; i++) {
         if (strcmp(name, names[i]) == 0) {
             *wrong = (wrong_engine)i;

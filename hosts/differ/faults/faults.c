@@ -192,4 +192,9 @@ u64 fw_link_segment(AREAS, u64 t, u64 d1, u64 o, u64 d, u64 *value) {
 #endif
     return answer;
 }
+#elif FAULT == 25 /* gives a container of quota 0 the 16 units that it had before W7 */
+u64 real_fw_create_container(AREAS, u64 t, u64 d, BYTES(l), BYTES(x), u64 mask, u64 quota, u64 *value);
+u64 fw_create_container(AREAS, u64 t, u64 d, BYTES(l), BYTES(x), u64 mask, u64 quota, u64 *value) {
+    return real_fw_create_container(LENT, t, d, PASS(l), PASS(x), mask, quota == 0 ? 16 : quota, value);
+}
 #endif

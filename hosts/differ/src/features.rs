@@ -3,7 +3,7 @@
 use flytewood_model::book::positions::Positions;
 use flytewood_model::labels::{Label, STAR, WORDS};
 use flytewood_model::model::{
-    Body, Call, Kind, Object, Outcome, World, GRANTED, MASK_FORBIDS, NUMBERS_ENDED,
+    Body, Call, Kind, Object, Outcome, World, GRANTED, MASK_FORBIDS, NOT_ENOUGH_SPARE, NUMBERS_ENDED,
 };
 use std::collections::BTreeSet;
 
@@ -20,7 +20,7 @@ pub struct Done<'a> {
 
 type Feature = (&'static str, fn(&Done) -> bool);
 
-pub const FEATURES: [Feature; 29] = [
+pub const FEATURES: [Feature; 31] = [
     ("the root full to its last unit", |done| done.granted() && done.root_spare() == 0),
     ("256 objects", |done| done.after.objects.len() == 256),
     ("255 links", |done| done.after.links.len() == 255),
@@ -60,6 +60,12 @@ pub const FEATURES: [Feature; 29] = [
         done.masked_link().map_or(false, |link| done.before.links.contains(&link))
     }),
     ("a link out of such a container", |done| done.linked_from().map_or(false, |d| done.holds_forbidden(d))),
+    ("a container of quota 0 (W7) where 8 units are left, and not one more", |done| {
+        done.granted() && done.left_for_a_default() == Some(8)
+    }),
+    ("13 for a container of quota 0 where 7 are left", |done| {
+        done.outcome.answer == NOT_ENOUGH_SPARE && done.left_for_a_default() == Some(7)
+    }),
 ];
 
 /// Whether a free place was taken that has one in use above it.
@@ -132,6 +138,16 @@ impl Done<'_> {
 
     fn has_old_link(&self) -> bool {
         self.before.links.iter().any(|link| forbidden(self.before, link))
+    }
+
+    /// The spare of the container in which a container of quota 0 is asked for.
+    fn left_for_a_default(&self) -> Option<u64> {
+        match self.call {
+            Call::CreateContainer { d, quota: 0, .. } if self.before.containers().contains(d) => {
+                Some(self.before.spare(*d))
+            }
+            _ => None,
+        }
     }
 
     fn unreferenced(&self) -> Option<u64> {

@@ -11,7 +11,7 @@ use flytewood_model::random::Random;
 use std::time::Instant;
 
 /// At least 200 histories of 400 calls, with fixed seeds: those from 0 to below this, 16 for each theme.
-const HISTORIES: u64 = 208;
+const HISTORIES: u64 = 224;
 const DAMAGED_IN_A_ROUND: usize = 40;
 const CALLS_ELSEWHERE: usize = 25;
 const RANDOM_BOOKS: usize = 300;
@@ -77,7 +77,7 @@ pub fn fixed_run() -> Checked {
     );
     for seed in 0..HISTORIES {
         round(seed, &mut counts)?;
-        if (seed + 1) % 26 == 0 {
+        if (seed + 1) % 28 == 0 {
             println!("{} of {} rounds ({} s)", seed + 1, HISTORIES, began.elapsed().as_secs());
         }
     }

@@ -4,12 +4,12 @@ use crate::bench::{need, Bench, Checked};
 use crate::run::{Run, Tally};
 use flytewood_model::ask::*;
 use flytewood_model::labels::*;
-use flytewood_model::model::{Call, Kind, LAST_FIRST_NUMBER, MASK_FORBIDS};
+use flytewood_model::model::{Call, Kind, LAST_FIRST_NUMBER, MASK_FORBIDS, NOT_ENOUGH_SPARE};
 use flytewood_model::random::Random;
 
 type Opening = fn(&mut Run) -> Checked;
 
-const THEMES: [(&str, Opening); 13] = [
+const THEMES: [(&str, Opening); 14] = [
     ("mixture", nothing),
     ("the root filled", fill_the_root),
     ("256 objects", crowd),
@@ -23,6 +23,7 @@ const THEMES: [(&str, Opening); 13] = [
     ("the numbers end", nothing),
     ("labels apart", apart),
     ("links from before W2", old_links),
+    ("containers of quota 0", defaults),
 ];
 
 /// The history of this seed; gives the bench as it stands after it.
@@ -306,4 +307,39 @@ fn old_links(run: &mut Run) -> Checked {
     run.grant(init, category())?;
     run.grant(init, unreference(masked, old[1]))?;
     run.refuse(init, link(root, old[1], masked), MASK_FORBIDS)
+}
+
+/// RULES 3.7: ".. 0 stands for a default: 8 for a container, .." In the root and in containers that hold this and
+/// that: where 7 units are left it is refused, where 8 are it takes all of them.
+fn defaults(run: &mut Run) -> Checked {
+    let (root, init) = (run.root, run.init);
+    for _ in 0..3 {
+        let held = run.random.between(1, 30);
+        let d = run.grant(init, container(root, one(), 0, 1 + held + 7))?;
+        run.grant(init, segment(d, one(), held))?;
+        last_default(run, root, d)?;
+    }
+    let old = run.grant(init, container(root, one(), 0, CONTAINER_QUOTA_BEFORE_W7))?;
+    run.grant(init, container(old, one(), 0, 0))?;
+    last_default(run, root, old)?;
+    let rest = root_spare(run) - 7;
+    let d = run.grant(init, container(root, one(), 0, rest))?;
+    run.refuse(init, container(root, one(), 0, 0), NOT_ENOUGH_SPARE)?;
+    run.grant(init, move_quota(root, d, -1))?;
+    run.grant(init, container(root, one(), 0, 0))?;
+    need(root_spare(run) == 0, || "the root has units left".to_string())
+}
+
+/// A container of `parent` with 7 units left, then with 8.
+fn last_default(run: &mut Run, parent: u64, d: u64) -> Checked {
+    run.refuse(run.init, container(d, one(), 0, 0), NOT_ENOUGH_SPARE)?;
+    run.grant(run.init, move_quota(parent, d, 1))?;
+    let inner = run.grant(run.init, container(d, one(), 0, 0))?;
+    run.refuse(run.init, segment(d, one(), 1), NOT_ENOUGH_SPARE)?;
+    for _ in 0..7 {
+        let call = small(&mut run.random, inner);
+        run.grant(run.init, call)?;
+    }
+    let call = small(&mut run.random, inner);
+    run.refuse(run.init, call, NOT_ENOUGH_SPARE)
 }
