@@ -2,7 +2,7 @@
  * For a team that looks for its calls that rely on a container's default quota: tells each create of a container with
  * quota 0, and the addresses that it was called from, the innermost first. Link a program with this file and the
  * linker's option --wrap=fw_create_container, and run it; hosts/c/README.md has the commands. The call itself goes on
- * as it was made.
+ * as it was made. Needs glibc, for backtrace.
  */
 #include <execinfo.h>
 #include <inttypes.h>
