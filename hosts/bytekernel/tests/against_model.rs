@@ -5,6 +5,7 @@ use flytewood_model::ask::*;
 use flytewood_model::book::laid::laid;
 use flytewood_model::book::place::Order;
 use flytewood_model::book::*;
+use flytewood_model::coverage::Seen;
 use flytewood_model::drawn::Drawer;
 use flytewood_model::histories;
 use flytewood_model::labels::{Label, LEVEL_1, LEVEL_2};
@@ -13,6 +14,7 @@ use flytewood_model::model::{GRANTED, MASK_FORBIDS, NOT_ENOUGH_SPARE};
 use flytewood_model::random::Random;
 use flytewood_model::steered::steered;
 use std::collections::{BTreeMap, BTreeSet};
+use std::ops::Range;
 
 const AREA_LEN: usize = 16_384;
 const CALLS: usize = 400;
@@ -97,20 +99,14 @@ fn same(machine: &mut Machine, world: &mut World, caller: u64, call: &Call) -> O
     outcome
 }
 
-fn a_drawn_history(seed: u64, longest: u64, seen: &mut BTreeMap<(u64, u64), usize>) {
+fn a_drawn_history(seed: u64, longest: u64, seen: &mut Seen) {
     let mut random = Random::new(seed);
     let mut world = World::start(FIRST).expect("a first number");
     let mut machine = Machine::start(FIRST);
     drawn_calls(&mut random, &mut machine, &mut world, longest, seen);
 }
 
-fn drawn_calls(
-    random: &mut Random,
-    machine: &mut Machine,
-    world: &mut World,
-    longest: u64,
-    seen: &mut BTreeMap<(u64, u64), usize>,
-) {
+fn drawn_calls(random: &mut Random, machine: &mut Machine, world: &mut World, longest: u64, seen: &mut Seen) {
     for _ in 0..CALLS {
         let (caller, call) = Drawer { random: &mut *random, world, longest }.turn();
         let mut after = world.clone();
@@ -127,7 +123,7 @@ fn drawn_calls(
 
 #[test]
 fn drawn_histories() {
-    let mut seen = BTreeMap::new();
+    let mut seen = Seen::new();
     for seed in 0..60 {
         a_drawn_history(seed, if seed % 2 == 0 { 16_256 } else { 600 }, &mut seen);
     }
@@ -136,30 +132,40 @@ fn drawn_histories() {
     }
 }
 
-/// W2: "Links already there stay, and a book holding them is still sound." Some containers that hold segments
-/// come to forbid them, with all below.
-#[test]
-fn drawn_histories_with_links_from_before() {
-    let (mut seen, mut links_from_before) = (BTreeMap::new(), 0);
-    for seed in 100..200 {
+/// Drawn calls on books as kernels before a request left them: on a drawn world, in which `made` then makes some things as
+/// they were made before and says how many. Gives the calls with their answers.
+fn drawn_on_books_from_before(seeds: Range<u64>, made: fn(&mut Random, &mut World) -> usize) -> Seen {
+    let (mut seen, mut from_before) = (Seen::new(), 0);
+    for seed in seeds {
         let mut random = Random::new(seed);
         let mut world = World::start(FIRST).expect("a first number");
-        drawn_calls(&mut random, &mut Machine::start(FIRST), &mut world, 600, &mut BTreeMap::new());
-        for container in world.containers() {
-            if random.chance(30) {
-                forbid_segments(&mut world, container);
-            }
-        }
-        let forbidden = |(d, o): &&(u64, u64)| {
-            world.objects[d].mask() & 4 != 0 && world.objects[o].kind() == Kind::Segment
-        };
-        links_from_before += world.links.iter().filter(forbidden).count();
+        drawn_calls(&mut random, &mut Machine::start(FIRST), &mut world, 600, &mut Seen::new());
+        from_before += made(&mut random, &mut world);
         let (book, area) = laid(&mut random, &world, Order::Shuffled, 50);
-        let mut machine = Machine { book, area };
-        drawn_calls(&mut random, &mut machine, &mut world, 600, &mut seen);
+        assert!(passes(&book));
+        drawn_calls(&mut random, &mut Machine { book, area }, &mut world, 600, &mut seen);
     }
-    assert!(links_from_before > 40, "only {}", links_from_before);
+    assert!(from_before > 40, "only {}", from_before);
+    seen
+}
+
+/// W2: "Links already there stay, and a book holding them is still sound."
+#[test]
+fn drawn_histories_with_links_from_before() {
+    let seen = drawn_on_books_from_before(100..200, links_from_before);
     assert!(seen.contains_key(&(9, GRANTED)) && seen.contains_key(&(9, MASK_FORBIDS)), "{:?}", seen);
+}
+
+/// Some containers that hold segments come to forbid them, with all below.
+fn links_from_before(random: &mut Random, world: &mut World) -> usize {
+    for container in world.containers() {
+        if random.chance(30) {
+            forbid_segments(world, container);
+        }
+    }
+    let forbidden =
+        |(d, o): &&(u64, u64)| world.objects[d].mask() & 4 != 0 && world.objects[o].kind() == Kind::Segment;
+    world.links.iter().filter(forbidden).count()
 }
 
 fn forbid_segments(world: &mut World, container: u64) {
@@ -171,25 +177,16 @@ fn forbid_segments(world: &mut World, container: u64) {
     }
 }
 
-/// W7: "Quota 0 for a container shall mean 8 instead of 16, .." Some containers come to have 16 units, as
-/// those have that were made with 0 before.
+/// W7: "Quota 0 for a container shall mean 8 instead of 16, .."
 #[test]
 fn drawn_histories_with_containers_from_before() {
-    let (mut seen, mut containers_from_before) = (BTreeMap::new(), 0);
-    for seed in 200..300 {
-        let mut random = Random::new(seed);
-        let mut world = World::start(FIRST).expect("a first number");
-        drawn_calls(&mut random, &mut Machine::start(FIRST), &mut world, 600, &mut BTreeMap::new());
-        for container in world.containers() {
-            containers_from_before += usize::from(as_from_before(&mut world, container));
-        }
-        let (book, area) = laid(&mut random, &world, Order::Shuffled, 50);
-        assert!(passes(&book));
-        let mut machine = Machine { book, area };
-        drawn_calls(&mut random, &mut machine, &mut world, 600, &mut seen);
-    }
-    assert!(containers_from_before > 40, "only {}", containers_from_before);
+    let seen = drawn_on_books_from_before(200..300, containers_from_before);
     assert!(seen.contains_key(&(4, GRANTED)) && seen.contains_key(&(4, NOT_ENOUGH_SPARE)), "{:?}", seen);
+}
+
+/// Some containers come to have 16 units, as those have that were made with 0 before.
+fn containers_from_before(_: &mut Random, world: &mut World) -> usize {
+    world.containers().into_iter().filter(|container| as_from_before(world, *container)).count()
 }
 
 /// A container that has no more than 16 units gets them, if the one that it is in has the room.
