@@ -8,6 +8,7 @@ pub enum Found {
 
 pub mod kinds; // kinds.rt: the codes of the kinds
 pub mod limits; // limits.rt: numbers of the rules
+pub mod in_place; // in_place.rt: a row's label and clearance where they are held
 pub mod make; // make.rt: an object created, a link added
 mod numbers; // numbers.rt: numbers of a table's width as numbers that are counted with
 mod sound_rows; // sound_rows.rt: ranges, ids and labels of a sound book

@@ -5,12 +5,6 @@ ghost use Rattle.book.specs.Book.{blocksOf};
 use super::limits::BLOCK_SIZE;
 use super::limits::ROUND_UP;
 
-pub fn wide(x: u8) -> u64
-    ensures { λ r. ⌜ (r ≡ x) × (r < 256) ⌝ }
-{
-    x as u64
-}
-
 pub fn small_index(x: u8) -> usize
     ensures { λ r. ⌜ (r ≡ x) × (r < 256) ⌝ }
 {

@@ -4,11 +4,14 @@ ghost use mathlib.Core.Bool.{true, not};
 ghost use Prim.Native.Nat.{_+_, _<_, _≤_};
 ghost use lib.Dec.{eqb};
 ghost use lib.ListN.{length, replicate};
+ghost use Rattle.labels.specs.Core.{heldIn};
 ghost use Rattle.tables.specs.Layout.{size, view, rowCount};
 ghost use Rattle.book.specs.Book.{idOf, labelOf, hasId};
 ghost use Rattle.book.specs.Test.{every, rangeN, rangeB, newB, idB, clearB, labelB, rowB, rowsB};
 ghost use Rattle.book.specs.Marks.{markCount, markBytes, markPlace, markAt, markSet, Marked};
 use super::find::has_id;
+use super::in_place::clearance_of;
+use super::in_place::label_of;
 use super::kinds::CONTAINER;
 use super::kinds::FREE;
 use super::kinds::MAX_MASK;
@@ -17,23 +20,16 @@ use super::kinds::thread_or_gate;
 use super::limits::LAST_NUMBER;
 use super::limits::MAX_LENGTH;
 use super::limits::ROOT_QUOTA;
-use super::numbers::wide;
-use labels::Rule;
-use labels::WORDS;
-use labels::compare::holds;
-use labels::form::formed;
-use tables::CLEAR_DEFAULT;
-use tables::CLEAR_WORDS;
+use labels::Held;
+use labels::compare::flows;
+use labels::form::well_formed;
 use tables::FIXED;
 use tables::ID;
 use tables::KIND;
-use tables::LABEL_DEFAULT;
-use tables::LABEL_WORDS;
 use tables::LEN;
 use tables::MASK;
 use tables::QUOTA;
 use tables::ROWS;
-use tables::get_words;
 use tables::get8;
 use tables::get16;
 use tables::get64;
@@ -150,37 +146,31 @@ fn id_ok(b: &[u8], r: usize, marks: &mut [u8; MARK_BYTES]) -> bool
     id_new(b, r, id, marks)
 }
 
-// Labels stay in the slices that they are read into: a Label by value would be copied, and this test meets every label of the book.
-
-// The clearance of row r, whose label has this default and these words.
-fn clear_ok(b: &[u8], r: usize, d: u64, words: &[u64]) -> bool
-    requires { ⌜ (length (now b) ≡ size) × (r < rowCount) × (d ≡ (labelOf (view (now b)) r) .default) × (now words ≡ (labelOf (view (now b)) r) .words) ⌝ }
+// The clearance of row r, which has this label.
+fn clear_ok(b: &[u8], r: usize, label: Held) -> bool
+    requires { ⌜ (length (now b) ≡ size) × (r < rowCount) × (heldIn (now b) label ≡ labelOf (view (now b)) r) ⌝ }
     ensures { λ t. ⌜ t ≡ clearB (view (now (b .entry))) r ⌝ }
 {
-    let most = wide(get8(b, CLEAR_DEFAULT, r));
-    let cleared = get_words(b, CLEAR_WORDS, r * WORDS);
-    if !formed(next(b), false, most, &cleared) {
+    let clearance = clearance_of(b, r);
+    if !well_formed(b, clearance, next(b), false) {
         return false;
     }
-    let none = [0u64; 0];
-    holds(Rule::Flows, d, words, most, &cleared, 0, &none)
+    flows(b, label, b, clearance)
 }
 
 fn label_ok(b: &[u8], r: usize) -> bool
     requires { ⌜ (length (now b) ≡ size) × (r < rowCount) ⌝ }
     ensures { λ t. ⌜ t ≡ labelB (view (now (b .entry))) r ⌝ }
 {
-    let code = get8(b, KIND, r);
-    let d = wide(get8(b, LABEL_DEFAULT, r));
-    let words = get_words(b, LABEL_WORDS, r * WORDS);
-    let cleared = thread_or_gate(code);
-    if !formed(next(b), cleared, d, &words) {
+    let cleared = thread_or_gate(get8(b, KIND, r));
+    let label = label_of(b, r);
+    if !well_formed(b, label, next(b), cleared) {
         return false;
     }
     if !cleared {
         return true;
     }
-    clear_ok(b, r, d, &words)
+    clear_ok(b, r, label)
 }
 
 fn row_ok(b: &[u8], r: usize, marks: &mut [u8; MARK_BYTES]) -> bool

@@ -16,13 +16,13 @@ use super::Tested;
 use super::conditions::flow;
 use super::conditions::writing;
 use super::masks::forbids;
-use book::find::clearance_of;
-use book::find::label_of;
 use book::find::next_of;
+use book::in_place::clearance_of;
+use book::in_place::label_of;
 use book::make::NewRow;
 use book::make::create;
 use book::units::spare_of;
-use labels::bytes::from_bytes;
+use labels::in_place::from_bytes;
 
 // RULES 3.7: "The quota given to call 4 or 5 is at most 255, .."
 pub const MAX_QUOTA: u64 = 255;
@@ -44,11 +44,11 @@ pub fn plain_allowed(b: &[u8], t: usize, label: &[u8]) -> Tested
     ensures { λ r. ⌜ r ≡ tested (plainConditions (labelOf (view (now (b .entry))) t) (clearanceOf (view (now (b .entry))) t) (core.labelOf (now (label .entry)))) ⌝ }
 {
     let new = from_bytes(label);
-    match flow(label_of(b, t), new) {
+    match flow(b, label_of(b, t), label, new) {
         Tested::Pass => {}
         Tested::Fail(r) => return Tested::Fail(r),
     }
-    flow(new, clearance_of(b, t))
+    flow(label, new, b, clearance_of(b, t))
 }
 
 // The same of one with a clearance, which stands between the two.
@@ -59,15 +59,15 @@ pub fn cleared_allowed(b: &[u8], t: usize, label: &[u8], clearance: &[u8]) -> Te
 {
     let new = from_bytes(label);
     let most = from_bytes(clearance);
-    match flow(label_of(b, t), new) {
+    match flow(b, label_of(b, t), label, new) {
         Tested::Pass => {}
         Tested::Fail(r) => return Tested::Fail(r),
     }
-    match flow(new, most) {
+    match flow(label, new, clearance, most) {
         Tested::Pass => {}
         Tested::Fail(r) => return Tested::Fail(r),
     }
-    flow(most, clearance_of(b, t))
+    flow(clearance, most, b, clearance_of(b, t))
 }
 
 // Whether the thread at row t may create an object in the container at row c, by the tests from 7 on: `code` is that of the object's kind, and
@@ -76,7 +76,7 @@ pub fn admit(b: &[u8], t: usize, c: usize, code: u8, quota: u64, allowed: Tested
     requires { ⌜ (length (now b) ≡ size) × Sound (view (now b)) × (t < rowCount) × Live (view (now b)) c × (1 ≤ code) × (code ≤ 64) ⌝ }
     ensures { λ r. ⌜ r ≡ admitted (view (now (b .entry))) t c code quota allowed ⌝ }
 {
-    match writing(label_of(b, t), label_of(b, c)) {
+    match writing(b, label_of(b, t), b, label_of(b, c)) {
         Tested::Pass => {}
         Tested::Fail(r) => return Judged::No(r),
     }

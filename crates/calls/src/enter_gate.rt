@@ -2,7 +2,7 @@
 ghost use mathlib.Core.Path.{_≡_};
 ghost use Prim.Native.Nat.{_<_};
 ghost use lib.ListN.{length};
-ghost use Rattle.labels.specs.Core.{labelSize};
+ghost use Rattle.labels.specs.Core.{labelSize, heldIn};
 ghost use Rattle.rules.specs.Kernel.{enterGate};
 ghost use Rattle.tables.specs.Layout.{view, size, rowCount};
 ghost use Rattle.calls.specs.Conditions.{tested};
@@ -22,15 +22,15 @@ use super::leave::leave;
 use super::lookup::open_entry;
 use super::relabel::take_labels;
 use book::find::Entry;
-use book::find::clearance_of;
 use book::find::closure_into;
 use book::find::entry_number_of;
 use book::find::kind_of;
-use book::find::label_of;
 use book::find::next_of;
+use book::in_place::clearance_of;
+use book::in_place::label_of;
 use book::kinds::GATE;
-use labels::Label;
-use labels::bytes::from_bytes;
+use labels::Held;
+use labels::in_place::from_bytes;
 use tables::TEXT_SIZE;
 
 // Whether L_R, C_R, L_V and the output's length are as they should be.
@@ -51,33 +51,39 @@ fn good(next: u64, lr: &[u8], cr: &[u8], lv: &[u8], n: usize) -> bool
 
 // RULES 8.15: "7 unless T flows to G's clearance, T flows to L_V, floor(T, G) flows to L_R, L_R flows to C_R, and C_R flows to join(T's clearance, G's clearance)."
 fn allowed(
-    mine: Label,
-    cleared: Label,
-    gate: Label,
-    guard: Label,
-    taken: Label,
-    limit: Label,
-    shown: Label,
+    b: &[u8],
+    mine: Held,
+    cleared: Held,
+    gate: Held,
+    guard: Held,
+    lr: &[u8],
+    taken: Held,
+    cr: &[u8],
+    limit: Held,
+    lv: &[u8],
+    shown: Held,
 ) -> Tested
-    ensures { λ r. ⌜ r ≡ tested (gateConditions mine cleared gate guard taken limit shown) ⌝ }
+    ensures { λ r. ⌜ r ≡ tested (gateConditions (heldIn (now (b .entry)) mine) (heldIn (now (b .entry)) cleared)
+        (heldIn (now (b .entry)) gate) (heldIn (now (b .entry)) guard)
+        (heldIn (now (lr .entry)) taken) (heldIn (now (cr .entry)) limit) (heldIn (now (lv .entry)) shown)) ⌝ }
 {
-    match flow(mine, guard) {
+    match flow(b, mine, b, guard) {
         Tested::Pass => {}
         Tested::Fail(r) => return Tested::Fail(r),
     }
-    match flow(mine, shown) {
+    match flow(b, mine, lv, shown) {
         Tested::Pass => {}
         Tested::Fail(r) => return Tested::Fail(r),
     }
-    match floor_flow(mine, gate, taken) {
+    match floor_flow(b, mine, b, gate, lr, taken) {
         Tested::Pass => {}
         Tested::Fail(r) => return Tested::Fail(r),
     }
-    match flow(taken, limit) {
+    match flow(lr, taken, cr, limit) {
         Tested::Pass => {}
         Tested::Fail(r) => return Tested::Fail(r),
     }
-    flow_join(limit, cleared, guard)
+    flow_join(cr, limit, b, cleared, b, guard)
 }
 
 // The same of the thread at row t, the gate at row r and the bytes lent.
@@ -92,7 +98,19 @@ fn conditions(b: &[u8], t: usize, r: usize, lr: &[u8], cr: &[u8], lv: &[u8]) -> 
     let taken = from_bytes(lr);
     let limit = from_bytes(cr);
     let shown = from_bytes(lv);
-    allowed(mine, cleared, gate, guard, taken, limit, shown)
+    allowed(
+        b,
+        mine,
+        cleared,
+        gate,
+        guard,
+        lr,
+        taken,
+        cr,
+        limit,
+        lv,
+        shown,
+    )
 }
 
 fn judge(
@@ -148,8 +166,8 @@ pub fn enter_gate(
         Judged::Go(t, r) => {
             let value = entry_number_of(b, r);
             closure_into(b, r, out);
-            let taken = from_bytes(lr);
-            let limit = from_bytes(cr);
+            let taken = labels::bytes::from_bytes(lr);
+            let limit = labels::bytes::from_bytes(cr);
             take_labels(b, t, taken, limit);
             Answer::Granted(value)
         }

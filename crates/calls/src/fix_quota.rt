@@ -3,6 +3,7 @@ ghost use mathlib.Core.Path.{_≡_};
 ghost use mathlib.Core.List.{[], _∷_, _++_};
 ghost use Rattle.calls.specs.Outcome.{Done};
 ghost use Rattle.calls.specs.FixQuota.{FixJudged};
+ghost use Rattle.labels.specs.Core.{heldIn};
 ghost use Rattle.rules.specs.Kernel as kernel;
 ghost use Rattle.calls.specs.Conditions.{tested};
 use super::Answer;
@@ -19,19 +20,20 @@ use book::alter::fix;
 use book::alter::move_on;
 use book::find::Entry;
 use book::find::kind_of;
-use book::find::label_of;
+use book::in_place::label_of;
 use book::kinds::SEGMENT;
-use labels::Label;
+use labels::Held;
 
 // RULES 8.10: "7 unless T may write D and T flows to O."
-fn allowed(mine: Label, holder: Label, theirs: Label) -> Tested
-    ensures { λ r. ⌜ r ≡ tested (kernel.writing mine holder ++ (kernel.flow mine theirs ∷ [])) ⌝ }
+fn allowed(b: &[u8], mine: Held, holder: Held, theirs: Held) -> Tested
+    ensures { λ r. ⌜ r ≡ tested (kernel.writing (heldIn (now (b .entry)) mine) (heldIn (now (b .entry)) holder)
+        ++ (kernel.flow (heldIn (now (b .entry)) mine) (heldIn (now (b .entry)) theirs) ∷ [])) ⌝ }
 {
-    match writing(mine, holder) {
+    match writing(b, mine, b, holder) {
         Tested::Pass => {}
         Tested::Fail(r) => return Tested::Fail(r),
     }
-    flow(mine, theirs)
+    flow(b, mine, b, theirs)
 }
 
 fn judge(b: &[u8], area: &[u8], caller: u64, d: u64, o: u64) -> Judged
@@ -52,7 +54,12 @@ fn judge(b: &[u8], area: &[u8], caller: u64, d: u64, o: u64) -> Judged
     if kind_of(b, object) != SEGMENT {
         return Judged::No(Refusal::WrongKind);
     }
-    match allowed(label_of(b, t), label_of(b, container), label_of(b, object)) {
+    match allowed(
+        b,
+        label_of(b, t),
+        label_of(b, container),
+        label_of(b, object),
+    ) {
         Tested::Pass => {}
         Tested::Fail(r) => return Judged::No(r),
     }

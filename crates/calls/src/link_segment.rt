@@ -21,12 +21,12 @@ use super::lookup::open_entry;
 use super::masks::forbids;
 use book::Found;
 use book::find::Entry;
-use book::find::clearance_of;
 use book::find::fixed_of;
 use book::find::kind_of;
-use book::find::label_of;
 use book::find::link_of;
 use book::find::quota_of;
+use book::in_place::clearance_of;
+use book::in_place::label_of;
 use book::kinds::SEGMENT;
 use book::make::add_link;
 use book::units::spare_of;
@@ -37,11 +37,11 @@ fn admit(b: &[u8], t: usize, c: usize, o: usize) -> Judged
     requires { ⌜ (length (now b) ≡ size) × Sound (view (now b)) × (t < rowCount) × Live (view (now b)) c × (o < rowCount) ⌝ }
     ensures { λ r. ⌜ r ≡ linkable (view (now (b .entry))) t c o ⌝ }
 {
-    match writing(label_of(b, t), label_of(b, c)) {
+    match writing(b, label_of(b, t), b, label_of(b, c)) {
         Tested::Pass => {}
         Tested::Fail(r) => return Judged::No(r),
     }
-    match flow(label_of(b, o), clearance_of(b, t)) {
+    match flow(b, label_of(b, o), b, clearance_of(b, t)) {
         Tested::Pass => {}
         Tested::Fail(r) => return Judged::No(r),
     }

@@ -5,7 +5,7 @@ ghost use mathlib.Core.List.{[], _∷_};
 ghost use Prim.Native.Nat.{_+_, _*_, _<_};
 ghost use lib.ListN.{length};
 ghost use lib.Seq.{sets};
-ghost use Rattle.labels.specs.Core.{wordCount};
+ghost use Rattle.labels.specs.Core.{wordCount, heldIn};
 ghost use Rattle.rules.specs.Kernel.{look, lookSize};
 ghost use Rattle.tables.specs.Layout.{view, size, rowCount};
 ghost use Rattle.book.specs.Book.{labelOf};
@@ -25,12 +25,12 @@ use book::area::clear_all;
 use book::find::Entry;
 use book::find::description_into;
 use book::find::kind_of;
-use book::find::label_of;
+use book::in_place::label_of;
 use book::kinds::THREAD;
-use labels::Label;
+use labels::Held;
 use labels::WORDS;
-use labels::bytes::put_words;
 use labels::compare::may_read;
+use labels::in_place::put_words;
 use tables::TEXT_SIZE;
 
 // The bytes of an output: the description, eight bytes, and the words of a label.
@@ -73,13 +73,13 @@ fn judge(b: &[u8], area: &[u8], caller: u64, d: u64, o: u64, n: usize) -> Judged
 // ---- what is put out
 
 // RULES 8.16: "If O is a thread that T may not read, all bytes after the kind's code are 0."
-fn shown(kind: u8, mine: Label, theirs: Label) -> bool
-    ensures { λ r. ⌜ r ≡ shownB kind mine theirs ⌝ }
+fn shown(kind: u8, b: &[u8], mine: Held, theirs: Held) -> bool
+    ensures { λ r. ⌜ r ≡ shownB kind (heldIn (now (b .entry)) mine) (heldIn (now (b .entry)) theirs) ⌝ }
 {
     if kind != THREAD {
         return true;
     }
-    may_read(mine, theirs)
+    may_read(b, mine, b, theirs)
 }
 
 // Zeros in place of a label.
@@ -106,24 +106,24 @@ fn put_head(out: &mut [u8], kind: u8, default: u8)
     out[7] = 0;
 }
 
-fn put_shown(out: &mut [u8], kind: u8, label: Label)
-    requires { ⌜ (length (now out) ≡ 8 + wordCount * 8) × (label .default < 256) ⌝ }
-    ensures { λ _. ⌜ now (out .exit) ≡ shownBytes kind label ⌝ }
+fn put_shown(out: &mut [u8], kind: u8, b: &[u8], label: Held)
+    requires { ⌜ (length (now out) ≡ 8 + wordCount * 8) × (heldIn (now b) label .default < 256) × (length (heldIn (now b) label .words) ≡ wordCount) ⌝ }
+    ensures { λ _. ⌜ now (out .exit) ≡ shownBytes kind (heldIn (now (b .entry)) label) ⌝ }
 {
     put_head(out, kind, label.default as u8);
-    put_words(out, 8, &label.words);
+    put_words(out, 8, b, label);
 }
 
 // Kind and label, shown or not.
-fn put_label(out: &mut [u8], kind: u8, mine: Label, theirs: Label)
-    requires { ⌜ (length (now out) ≡ 8 + wordCount * 8) × (theirs .default < 256) ⌝ }
-    ensures { λ _. ⌜ now (out .exit) ≡ cond (shownB kind mine theirs) (shownBytes kind theirs) (hiddenBytes kind) ⌝ }
+fn put_label(out: &mut [u8], kind: u8, b: &[u8], mine: Held, theirs: Held)
+    requires { ⌜ (length (now out) ≡ 8 + wordCount * 8) × (heldIn (now b) theirs .default < 256) × (length (heldIn (now b) theirs .words) ≡ wordCount) ⌝ }
+    ensures { λ _. ⌜ now (out .exit) ≡ cond (shownB kind (heldIn (now (b .entry)) mine) (heldIn (now (b .entry)) theirs)) (shownBytes kind (heldIn (now (b .entry)) theirs)) (hiddenBytes kind) ⌝ }
 {
-    if !shown(kind, mine, theirs) {
+    if !shown(kind, b, mine, theirs) {
         put_hidden(out, kind);
         return;
     }
-    put_shown(out, kind, theirs);
+    put_shown(out, kind, b, theirs);
 }
 
 // What the thread at row t is shown of the object at row r.
@@ -135,7 +135,7 @@ fn look_into(b: &[u8], t: usize, r: usize, out: &mut [u8])
     let theirs = label_of(b, r);
     let kind = kind_of(b, r);
     description_into(b, r, &mut out[0..TEXT_SIZE]);
-    put_label(&mut out[TEXT_SIZE..LOOK_SIZE], kind, mine, theirs);
+    put_label(&mut out[TEXT_SIZE..LOOK_SIZE], kind, b, mine, theirs);
 }
 
 pub fn look(b: &mut [u8], area: &mut [u8], caller: u64, d: u64, o: u64, out: &mut [u8]) -> Answer

@@ -8,7 +8,7 @@ use book::Found;
 use book::find::Entry;
 use book::find::container_of;
 use book::find::entry_of;
-use book::find::label_of;
+use book::in_place::label_of;
 use labels::compare::may_read;
 
 // The row of the container d, if the thread at row t may read it.
@@ -19,7 +19,7 @@ pub fn open_container(b: &[u8], t: usize, d: u64) -> Found
     let Found::At(container) = container_of(b, d) else {
         return Found::Nothing;
     };
-    if !may_read(label_of(b, t), label_of(b, container)) {
+    if !may_read(b, label_of(b, t), b, label_of(b, container)) {
         return Found::Nothing;
     }
     Found::At(container)
@@ -38,7 +38,7 @@ pub fn open_entry(b: &[u8], t: usize, d: u64, o: u64) -> Entry
     else {
         return Entry::Nothing;
     };
-    if !may_read(label_of(b, t), label_of(b, container)) {
+    if !may_read(b, label_of(b, t), b, label_of(b, container)) {
         return Entry::Nothing;
     }
     Entry::In {

@@ -5,6 +5,7 @@ ghost use mathlib.Core.List.{_∷_, _++_};
 ghost use Prim.Native.Nat.{_<_};
 ghost use lib.Dec.{eqb};
 ghost use lib.ListN.{length};
+ghost use Rattle.labels.specs.Core.{heldIn};
 ghost use Rattle.tables.specs.Layout.{view, size, rowCount};
 ghost use Rattle.book.specs.Sound.{Live, Sound};
 ghost use Rattle.calls.specs.Amount.{moreFor, roomAt};
@@ -31,15 +32,15 @@ use super::lookup::open_entry;
 use book::alter::move_on;
 use book::alter::set_quota;
 use book::find::Entry;
-use book::find::clearance_of;
 use book::find::fixed_of;
 use book::find::kind_of;
-use book::find::label_of;
 use book::find::quota_of;
+use book::in_place::clearance_of;
+use book::in_place::label_of;
 use book::kinds::CONTAINER;
 use book::kinds::SEGMENT;
 use book::units::spare_of;
-use labels::Label;
+use labels::Held;
 
 // A segment or a container.
 fn movable(kind: u8) -> bool
@@ -52,33 +53,35 @@ fn movable(kind: u8) -> bool
 }
 
 // RULES 8.11: ".. and, for n below 0, O flows to high(T)."
-fn readable(mine: Label, theirs: Label, units: Amount) -> Tested
-    ensures { λ r. ⌜ r ≡ tested (moreFor units mine theirs) ⌝ }
+fn readable(b: &[u8], mine: Held, theirs: Held, units: Amount) -> Tested
+    ensures { λ r. ⌜ r ≡ tested (moreFor units (heldIn (now (b .entry)) mine) (heldIn (now (b .entry)) theirs)) ⌝ }
 {
     match units {
         Amount::In(m) => return Tested::Pass,
-        Amount::Out(m) => return reading(mine, theirs),
+        Amount::Out(m) => return reading(b, mine, b, theirs),
         Amount::Bad => return Tested::Pass,
     }
 }
 
 // RULES 8.11: "7 unless T may write D, T flows to O, O flows to T's clearance and, for n below 0, O flows to high(T)."
-fn allowed(mine: Label, clear: Label, holder: Label, theirs: Label, units: Amount) -> Tested
-    ensures { λ r. ⌜ r ≡ tested (kernel.writing mine holder ++ (kernel.flow mine theirs ∷ kernel.flow theirs clear ∷ moreFor units mine theirs)) ⌝ }
+fn allowed(b: &[u8], mine: Held, clear: Held, holder: Held, theirs: Held, units: Amount) -> Tested
+    ensures { λ r. ⌜ r ≡ tested (kernel.writing (heldIn (now (b .entry)) mine) (heldIn (now (b .entry)) holder)
+        ++ (kernel.flow (heldIn (now (b .entry)) mine) (heldIn (now (b .entry)) theirs) ∷ kernel.flow (heldIn (now (b .entry)) theirs) (heldIn (now (b .entry)) clear)
+        ∷ moreFor units (heldIn (now (b .entry)) mine) (heldIn (now (b .entry)) theirs))) ⌝ }
 {
-    match writing(mine, holder) {
+    match writing(b, mine, b, holder) {
         Tested::Pass => {}
         Tested::Fail(r) => return Tested::Fail(r),
     }
-    match flow(mine, theirs) {
+    match flow(b, mine, b, theirs) {
         Tested::Pass => {}
         Tested::Fail(r) => return Tested::Fail(r),
     }
-    match flow(theirs, clear) {
+    match flow(b, theirs, b, clear) {
         Tested::Pass => {}
         Tested::Fail(r) => return Tested::Fail(r),
     }
-    readable(mine, theirs, units)
+    readable(b, mine, theirs, units)
 }
 
 // Only a segment's quota can be fixed; in other rows the mark is an unused byte.
@@ -127,7 +130,14 @@ fn judge(b: &[u8], area: &[u8], caller: u64, d: u64, o: u64, units: Amount) -> J
     }
     let mine = label_of(b, t);
     let holder = label_of(b, container);
-    match allowed(mine, clearance_of(b, t), holder, label_of(b, object), units) {
+    match allowed(
+        b,
+        mine,
+        clearance_of(b, t),
+        holder,
+        label_of(b, object),
+        units,
+    ) {
         Tested::Pass => {}
         Tested::Fail(r) => return Judged::No(r),
     }

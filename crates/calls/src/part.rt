@@ -4,6 +4,7 @@ ghost use mathlib.Core.Path.{_≡_};
 ghost use Prim.Native.Nat.{_+_, _*_, _<_, _≤_};
 ghost use lib.Dec.{leb};
 ghost use lib.ListN.{length};
+ghost use Rattle.labels.specs.Core.{heldIn};
 ghost use Rattle.rules.specs.Kernel.{blockSize, maxBlock};
 ghost use Rattle.tables.specs.Layout.{view, size, rowCount};
 ghost use Rattle.book.specs.Book.{blockAt};
@@ -18,10 +19,10 @@ use super::conditions::writing;
 use book::Found;
 use book::blocks::block_of;
 use book::find::kind_of;
-use book::find::label_of;
 use book::find::len_of;
+use book::in_place::label_of;
 use book::kinds::SEGMENT;
-use labels::Label;
+use labels::Held;
 
 // RULES 8.12: "4 if k is above 253, .."
 const MAX_BLOCK: u64 = 253;
@@ -46,13 +47,13 @@ pub fn good_part(k: u64, from: u64, count: u64) -> bool
 }
 
 // RULES 8.12: "7 unless T may read S." 8.13: "7 unless T may write S."
-fn allowed(mine: Label, theirs: Label, writes: bool) -> Tested
-    ensures { λ r. ⌜ r ≡ tested (asked writes mine theirs) ⌝ }
+fn allowed(b: &[u8], mine: Held, theirs: Held, writes: bool) -> Tested
+    ensures { λ r. ⌜ r ≡ tested (asked writes (heldIn (now (b .entry)) mine) (heldIn (now (b .entry)) theirs)) ⌝ }
 {
     if writes {
-        return writing(mine, theirs);
+        return writing(b, mine, b, theirs);
     }
-    reading(mine, theirs)
+    reading(b, mine, b, theirs)
 }
 
 // Where byte `from` of block k of the segment at row r lies. An empty part may stand behind the last block.
@@ -83,7 +84,7 @@ pub fn find_part(
     if kind_of(b, r) != SEGMENT {
         return Judged::No(Refusal::WrongKind);
     }
-    match allowed(label_of(b, t), label_of(b, r), writes) {
+    match allowed(b, label_of(b, t), label_of(b, r), writes) {
         Tested::Pass => {}
         Tested::Fail(why) => return Judged::No(why),
     }

@@ -14,8 +14,8 @@ use super::lookup::open_entry;
 use book::alter::move_on;
 use book::find::Entry;
 use book::find::kind_of;
-use book::find::label_of;
 use book::find::quota_of;
+use book::in_place::label_of;
 use book::kinds::SEGMENT;
 use book::units::units;
 
@@ -38,7 +38,7 @@ fn judge(b: &[u8], area: &[u8], caller: u64, d: u64, s: u64, length: u64) -> Jud
     if kind_of(b, object) != SEGMENT {
         return Judged::No(Refusal::WrongKind);
     }
-    match writing(label_of(b, t), label_of(b, object)) {
+    match writing(b, label_of(b, t), b, label_of(b, object)) {
         Tested::Pass => {}
         Tested::Fail(r) => return Judged::No(r),
     }

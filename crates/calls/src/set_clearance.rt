@@ -1,6 +1,7 @@
 // Call 3: the caller takes another clearance.
 ghost use mathlib.Core.Path.{_≡_};
 ghost use mathlib.Core.List.{[], _∷_};
+ghost use Rattle.labels.specs.Core.{heldIn};
 ghost use Rattle.rules.specs.Kernel as kernel;
 ghost use Rattle.calls.specs.Conditions.{tested};
 ghost use Rattle.calls.specs.Outcome.{Done};
@@ -16,21 +17,22 @@ use super::conditions::flow;
 use super::conditions::flow_join_high;
 use super::leave::leave;
 use super::relabel::take_labels;
-use book::find::clearance_of;
-use book::find::label_of;
 use book::find::next_of;
-use labels::Label;
-use labels::bytes::from_bytes;
+use book::in_place::clearance_of;
+use book::in_place::label_of;
+use labels::Held;
+use labels::in_place::from_bytes;
 
 // RULES 8.3: "7 unless T flows to C and C flows to join(T's clearance, high(T))."
-fn allowed(mine: Label, taken: Label, cleared: Label) -> Tested
-    ensures { λ r. ⌜ r ≡ tested (kernel.flow mine taken ∷ kernel.flowJoinHigh taken cleared mine ∷ []) ⌝ }
+fn allowed(b: &[u8], mine: Held, clearance: &[u8], taken: Held, cleared: Held) -> Tested
+    ensures { λ r. ⌜ r ≡ tested (kernel.flow (heldIn (now (b .entry)) mine) (heldIn (now (clearance .entry)) taken)
+        ∷ kernel.flowJoinHigh (heldIn (now (clearance .entry)) taken) (heldIn (now (b .entry)) cleared) (heldIn (now (b .entry)) mine) ∷ []) ⌝ }
 {
-    match flow(mine, taken) {
+    match flow(b, mine, clearance, taken) {
         Tested::Pass => {}
         Tested::Fail(r) => return Tested::Fail(r),
     }
-    flow_join_high(taken, cleared, mine)
+    flow_join_high(clearance, taken, b, cleared, b, mine)
 }
 
 fn judge(b: &[u8], area: &[u8], caller: u64, clearance: &[u8]) -> Judged
@@ -46,7 +48,7 @@ fn judge(b: &[u8], area: &[u8], caller: u64, clearance: &[u8]) -> Judged
     let mine = label_of(b, t);
     let taken = from_bytes(clearance);
     let cleared = clearance_of(b, t);
-    match allowed(mine, taken, cleared) {
+    match allowed(b, mine, clearance, taken, cleared) {
         Tested::Pass => {}
         Tested::Fail(r) => return Judged::No(r),
     }
@@ -60,8 +62,8 @@ pub fn set_clearance(b: &mut [u8], area: &mut [u8], caller: u64, clearance: &[u8
         Judged::Go(t, _) => t,
         Judged::No(r) => return leave(b, r),
     };
-    let taken = from_bytes(clearance);
-    let mine = label_of(b, t);
+    let taken = labels::bytes::from_bytes(clearance);
+    let mine = book::find::label_of(b, t);
     take_labels(b, t, mine, taken);
     Answer::Granted(0)
 }

@@ -1,6 +1,7 @@
 // Call 2: the caller takes another label.
 ghost use mathlib.Core.Path.{_≡_};
 ghost use mathlib.Core.List.{[], _∷_};
+ghost use Rattle.labels.specs.Core.{heldIn};
 ghost use Rattle.rules.specs.Kernel as kernel;
 ghost use Rattle.calls.specs.Conditions.{tested};
 ghost use Rattle.calls.specs.Outcome.{Done};
@@ -15,21 +16,22 @@ use super::begin::begin;
 use super::conditions::flow;
 use super::leave::leave;
 use super::relabel::take_labels;
-use book::find::clearance_of;
-use book::find::label_of;
 use book::find::next_of;
-use labels::Label;
-use labels::bytes::from_bytes;
+use book::in_place::clearance_of;
+use book::in_place::label_of;
+use labels::Held;
+use labels::in_place::from_bytes;
 
 // RULES 8.2: "7 unless T flows to L and L flows to T's clearance."
-fn allowed(mine: Label, taken: Label, cleared: Label) -> Tested
-    ensures { λ r. ⌜ r ≡ tested (kernel.flow mine taken ∷ kernel.flow taken cleared ∷ []) ⌝ }
+fn allowed(b: &[u8], mine: Held, label: &[u8], taken: Held, cleared: Held) -> Tested
+    ensures { λ r. ⌜ r ≡ tested (kernel.flow (heldIn (now (b .entry)) mine) (heldIn (now (label .entry)) taken)
+        ∷ kernel.flow (heldIn (now (label .entry)) taken) (heldIn (now (b .entry)) cleared) ∷ []) ⌝ }
 {
-    match flow(mine, taken) {
+    match flow(b, mine, label, taken) {
         Tested::Pass => {}
         Tested::Fail(r) => return Tested::Fail(r),
     }
-    flow(taken, cleared)
+    flow(label, taken, b, cleared)
 }
 
 fn judge(b: &[u8], area: &[u8], caller: u64, label: &[u8]) -> Judged
@@ -45,7 +47,7 @@ fn judge(b: &[u8], area: &[u8], caller: u64, label: &[u8]) -> Judged
     let mine = label_of(b, t);
     let taken = from_bytes(label);
     let cleared = clearance_of(b, t);
-    match allowed(mine, taken, cleared) {
+    match allowed(b, mine, label, taken, cleared) {
         Tested::Pass => {}
         Tested::Fail(r) => return Judged::No(r),
     }
@@ -59,8 +61,8 @@ pub fn set_label(b: &mut [u8], area: &mut [u8], caller: u64, label: &[u8]) -> An
         Judged::Go(t, _) => t,
         Judged::No(r) => return leave(b, r),
     };
-    let taken = from_bytes(label);
-    let cleared = clearance_of(b, t);
+    let taken = labels::bytes::from_bytes(label);
+    let cleared = book::find::clearance_of(b, t);
     take_labels(b, t, taken, cleared);
     Answer::Granted(0)
 }

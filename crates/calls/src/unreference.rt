@@ -13,7 +13,7 @@ use super::leave::leave;
 use super::lookup::open_entry;
 use book::cut::cut_entry;
 use book::find::Entry;
-use book::find::label_of;
+use book::in_place::label_of;
 
 fn judge(b: &[u8], area: &[u8], caller: u64, d: u64, o: u64) -> Judged
     ensures { λ r. ⌜ CutJudged (now (b .entry)) (now (area .entry)) caller d o r ⌝ }
@@ -30,7 +30,7 @@ fn judge(b: &[u8], area: &[u8], caller: u64, d: u64, o: u64) -> Judged
     else {
         return Judged::No(Refusal::NoEntry);
     };
-    match writing(label_of(b, t), label_of(b, container)) {
+    match writing(b, label_of(b, t), b, label_of(b, container)) {
         Tested::Pass => {}
         Tested::Fail(r) => return Judged::No(r),
     }

@@ -3,13 +3,16 @@
 ghost use mathlib.Core.Path.{_≡_};
 ghost use Prim.Native.Nat.{_+_, _*_, _≤_, _<_};
 ghost use lib.ListN.{length};
+ghost use Rattle.labels.specs.Core.{heldIn};
 ghost use Rattle.label_vectors.specs.Asked.{asked};
 ghost use Rattle.label_vectors.specs.Text.{put};
 ghost use Rattle.label_vectors.specs.Line.{pairText, answerText, lineText, linesText};
+use labels::Held;
 use labels::Label;
 use labels::bytes;
 use labels::compare;
 use labels::form;
+use labels::in_place;
 use labels::pair;
 use labels::words;
 use libc::STDIN_FILENO;
@@ -21,34 +24,34 @@ mod text; // text.rt: text in a buffer
 const CASE: usize = 204;
 
 // What the operations 0 to 8 ask.
-fn asked(op: u8, n: u64, x: Label, y: Label, z: Label) -> bool
-    ensures { λ r. ⌜ r ≡ asked op n x y z ⌝ }
+fn asked(op: u8, n: u64, a: &[u8], x: Held, b: &[u8], y: Held, c: &[u8], z: Held) -> bool
+    ensures { λ r. ⌜ r ≡ asked op n (heldIn (now (a .entry)) x) (heldIn (now (b .entry)) y) (heldIn (now (c .entry)) z) ⌝ }
 {
     if op == 0 {
-        return compare::flows(x, y);
+        return compare::flows(a, x, b, y);
     }
     if op == 1 {
-        return compare::flows_high(x, y);
+        return compare::flows_high(a, x, b, y);
     }
     if op == 2 {
-        return compare::floor_flows(x, y, z);
+        return compare::floor_flows(a, x, b, y, c, z);
     }
     if op == 3 {
-        return compare::flows_join(x, y, z);
+        return compare::flows_join(a, x, b, y, c, z);
     }
     if op == 4 {
-        return compare::flows_join_high(x, y, z);
+        return compare::flows_join_high(a, x, b, y, c, z);
     }
     if op == 5 {
-        return compare::may_read(x, y);
+        return compare::may_read(a, x, b, y);
     }
     if op == 6 {
-        return compare::may_write(x, y);
+        return compare::may_write(a, x, b, y);
     }
     if op == 7 {
-        return form::well_formed(x, n, true);
+        return form::well_formed(a, x, n, true);
     }
-    form::well_formed(x, n, false)
+    form::well_formed(a, x, n, false)
 }
 
 // The label with the pair whose word is `word`, in hexadecimal, or `full`.
@@ -72,16 +75,19 @@ fn put_answer(out: &mut [u8], at: usize, case: &[u8]) -> usize
 {
     let op = case[0];
     let n = bytes::get_u64(case, 1);
-    let x = bytes::from_bytes(&case[9..74]);
+    let a = &case[9..74];
+    let x = in_place::from_bytes(a);
     if op == 9 {
-        return put_pair(out, at, x, n);
+        return put_pair(out, at, bytes::from_bytes(a), n);
     }
     if op == 10 {
-        return text::decimal(out, at, compare::level(x, n));
+        return text::decimal(out, at, compare::level(a, x, n));
     }
-    let y = bytes::from_bytes(&case[74..139]);
-    let z = bytes::from_bytes(&case[139..204]);
-    if asked(op, n, x, y, z) {
+    let b = &case[74..139];
+    let y = in_place::from_bytes(b);
+    let c = &case[139..204];
+    let z = in_place::from_bytes(c);
+    if asked(op, n, a, x, b, y, c, z) {
         return text::copy(out, at, b"1");
     }
     text::copy(out, at, b"0")

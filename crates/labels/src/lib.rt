@@ -1,8 +1,9 @@
-// Labels: what they are made of. The modules compare them, test them, add a pair and turn them into bytes.
+// Labels: what they are made of. The modules compare and test them where they are held, add a pair, and turn them into bytes.
 ghost use mathlib.Core.Path.{_≡_};
 ghost use Rattle.labels.specs.Core.{plain};
 
 pub mod words; // words.rt: a category and a level code in one word
+pub mod in_place; // in_place.rt: a label's words where they are held
 pub mod compare; // compare.rt: the level at a category, and the comparisons
 pub mod form; // form.rt: when a label is well formed
 pub mod pair; // pair.rt: a label with one pair more
@@ -44,6 +45,12 @@ impl Label {
     {
         Label { default, words }
     }
+}
+
+// A label where it is held: its default, and where its words begin in the bytes that hold it.
+pub struct Held {
+    pub default: u64,
+    pub from: usize,
 }
 
 // What is compared, of labels X, Y and Z.

@@ -1,10 +1,10 @@
 // The book's tables (docs/BOOK.md): their numbers, where they start, and one accessor for each width. A contract speaks of the
 // book as a record of tables, `view`, and never of bytes.
 ghost use mathlib.Core.Path.{_≡_};
-ghost use Prim.Native.Nat.{_<_};
+ghost use Prim.Native.Nat.{_+_, _*_, _<_, _≤_};
 ghost use lib.ListN.{length, getD, take, drop};
 ghost use lib.Dec.{eqb};
-ghost use Rattle.labels.specs.Core.{wordCount};
+ghost use Rattle.labels.specs.Core.{wordCount, wordsAt};
 ghost use Rattle.tables.specs.Layout.{tableCount, base, size, view, tabOf, putT, runT, empty, Slot, Run};
 use bytes::get_u8;
 use bytes::get_u16;
@@ -245,6 +245,14 @@ pub fn get_words(b: &[u8], t: usize, i: usize) -> [u64; WORDS]
     let mut words = [0u64; WORDS];
     get_run64(b, t, i, &mut words);
     words
+}
+
+// Where those numbers begin in the book's bytes.
+pub fn words_from(b: &[u8], t: usize, i: usize) -> usize
+    requires { ⌜ Run (now b) t 8 i wordCount ⌝ }
+    ensures { λ p. ⌜ (p + wordCount * 8 ≤ length (now (b .entry))) × (wordsAt wordCount (now (b .entry)) p ≡ take wordCount (drop i (tabOf (view (now (b .entry))) t))) ⌝ }
+{
+    base_of(t) + i * 8
 }
 
 // Puts the numbers of `s` into table t, from number i on.

@@ -2,13 +2,11 @@
 use Prim.Native.Nat.{ℕ, zero, suc, _+_}
 use native.Mathlib.Omega.{arith}
 use mathlib.Core.Bool.{Bool, true, false, not, cond, _&&_}
-use mathlib.Core.List.{List, []}
 use mathlib.Core.Path.{_≡_, refl, sym, _∙_, ap, ap₂}
 use lib.Dec.{eqb, ltb, leb}
 use borrow.Author.Tests.{eq-eqb, ne-eqb, le-ltb, lt-ltb, leb-true, leb-false}
-use Rattle.labels.specs.declared.Rule.the-variants.{Flows}
-use Rattle.labels.specs.Core.{allowed, holdsB, formedB}
-use Rattle.labels.specs.Core.Compare.{flows-by-words}
+use Rattle.labels.specs.declared.Label.{Label}
+use Rattle.labels.specs.Core.{flows, wellFormed}
 use Rattle.quotas.specs.Any.{any, both, either}
 use Rattle.tables.specs.Layout.{View}
 use Rattle.book.specs.Book.{nextOf, idOf, codeOf, labelOf, clearanceOf, liveRow, hasId, isThreadOrGate}
@@ -56,26 +54,19 @@ id-same v o r e = both-one (liveRow v r) (eqb (idOf v r) o) (eq-eqb (idOf v r) o
 
 -- ---- labels, as they were read
 
-pub clear-read : (v : View) (r n d dc : ℕ) (ws cs : List ℕ) → n ≡ nextOf v → d ≡ (labelOf v r) .default → ws ≡ (labelOf v r) .words → dc ≡ (clearanceOf v r) .default → cs ≡ (clearanceOf v r) .words
-    → (t : Bool) → formedB n false dc cs ≡ t → clearB v r ≡ (t && holdsB (allowed Flows) d ws dc cs 0 [])
+pub clear-read : (v : View) (r n : ℕ) (l c : Label) → n ≡ nextOf v → l ≡ labelOf v r → c ≡ clearanceOf v r
+    → (t : Bool) → wellFormed n false c ≡ t → clearB v r ≡ (t && flows l c)
 unfolding clearB
-clear-read v r n d dc ws cs en ed ew edc ec t et =
-    let l = labelOf v r in
-    let c = clearanceOf v r in
-    ap (λ (x : Bool). formedB (nextOf v) false (c .default) (c .words) && x) (flows-by-words l c)
-    ∙ ap (λ (x : ℕ). formedB (nextOf v) false x (c .words) && holdsB (allowed Flows) (l .default) (l .words) x (c .words) 0 []) (sym edc)
-    ∙ ap (λ (x : List ℕ). formedB (nextOf v) false dc x && holdsB (allowed Flows) (l .default) (l .words) dc x 0 []) (sym ec)
-    ∙ ap (λ (x : ℕ). formedB x false dc cs && holdsB (allowed Flows) (l .default) (l .words) dc cs 0 []) (sym en)
-    ∙ ap₂ (λ (x : ℕ) (y : List ℕ). formedB n false dc cs && holdsB (allowed Flows) x y dc cs 0 []) (sym ed) (sym ew)
-    ∙ ap (λ (x : Bool). x && holdsB (allowed Flows) d ws dc cs 0 []) et
+clear-read v r n l c en el ec t et =
+    ap₂ (λ (x y : Label). wellFormed (nextOf v) false y && flows x y) (sym el) (sym ec)
+    ∙ ap (λ (x : ℕ). wellFormed x false c && flows l c) (sym en)
+    ∙ ap (λ (x : Bool). x && flows l c) et
 
-pub label-read : (v : View) (r k n d : ℕ) (s : Bool) (ws : List ℕ) → k ≡ codeOf v r → s ≡ isThreadOrGate k → n ≡ nextOf v → d ≡ (labelOf v r) .default → ws ≡ (labelOf v r) .words
-    → (t : Bool) → formedB n s d ws ≡ t → labelB v r ≡ (t && cond s (clearB v r) true)
+pub label-read : (v : View) (r k n : ℕ) (s : Bool) (l : Label) → k ≡ codeOf v r → s ≡ isThreadOrGate k → n ≡ nextOf v → l ≡ labelOf v r
+    → (t : Bool) → wellFormed n s l ≡ t → labelB v r ≡ (t && cond s (clearB v r) true)
 unfolding labelB
-label-read v r k n d s ws ek es en ed ew t et =
-    let l = labelOf v r in
-    ap (λ (x : ℕ). formedB (nextOf v) (isThreadOrGate x) (l .default) (l .words) && cond (isThreadOrGate x) (clearB v r) true) (sym ek)
-    ∙ ap (λ (x : Bool). formedB (nextOf v) x (l .default) (l .words) && cond x (clearB v r) true) (sym es)
-    ∙ ap (λ (x : ℕ). formedB x s (l .default) (l .words) && cond s (clearB v r) true) (sym en)
-    ∙ ap₂ (λ (x : ℕ) (y : List ℕ). formedB n s x y && cond s (clearB v r) true) (sym ed) (sym ew)
+label-read v r k n s l ek es en el t et =
+    ap (λ (x : Label). wellFormed (nextOf v) (isThreadOrGate (codeOf v r)) x && cond (isThreadOrGate (codeOf v r)) (clearB v r) true) (sym el)
+    ∙ ap (λ (x : Bool). wellFormed (nextOf v) x l && cond x (clearB v r) true) (sym (es ∙ ap isThreadOrGate ek))
+    ∙ ap (λ (x : ℕ). wellFormed x s l && cond s (clearB v r) true) (sym en)
     ∙ ap (λ (x : Bool). x && cond s (clearB v r) true) et

@@ -1,19 +1,28 @@
 -- The view of any bytes has its tables' lengths, and no change of a table takes them away.
-use Prim.Native.Nat.{ℕ}
+use Prim.Native.Nat.{ℕ, _*_, _<_}
+use native.Mathlib.Omega.{arith}
 use mathlib.Core.Bool.{Bool, true, false, cond}
 use mathlib.Core.Path.{_≡_, refl, sym, ap, _∙_, subst}
 use mathlib.Core.List.{List}
-use lib.ListN.{length, set, length-set, length-replicate}
-use lib.Seq.{sets, length-sets}
+use lib.ListN.{length, set, drop, length-set, length-drop, length-replicate}
+use lib.Seq.{sets, length-sets, length-take-le}
 use lib.Dec.{eqb}
 use borrow.Author.Tests.{eqb-true}
-use Rattle.tables.specs.Layout.{View, nOf, tabOf, view, empty, zeros, ifTab, onTab, putT, runT}
-use Rattle.tables.specs.Layout.Laws.{tabOf-from, long-all, tabOf-long}
+use Rattle.labels.specs.Core.{wordCount}
+use Rattle.tables.specs.Layout.{View, rowCount, labelWordsT, nOf, tabOf, view, empty, zeros, ifTab, onTab, putT, runT}
+use Rattle.tables.specs.Layout.Laws.{tabOf-from, long-all, tabOf-long, within}
+use Rattle.book.specs.Book.{labelOf}
 use Rattle.book.specs.Shape.{Shape}
 
 -- What a book's bytes say is in shape.
 pub view-shape : (b : List ℕ) → Shape (view b)
 view-shape b = record { long = tabOf-long b }
+
+-- A row's label has all its words.
+pub label-long : (b : List ℕ) (r : ℕ) → r < rowCount → length (labelOf (view b) r .words) ≡ wordCount
+label-long b r h =
+    length-take-le wordCount (drop (r * wordCount) (view b .labelWords))
+    (omega (arith, length-drop (r * wordCount) (view b .labelWords), tabOf-long b labelWordsT, within r rowCount wordCount h))
 
 zeros-long : (n : ℕ) → length (zeros n) ≡ n
 unfolding zeros

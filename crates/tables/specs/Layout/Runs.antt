@@ -7,10 +7,13 @@ use native.Mathlib.Numerals.{add-one}
 use native.Mathlib.Omega.{arith}
 use mathlib.Core.List.{List, [], _∷_, _++_, append-assoc}
 use lib.ListN.{length, getD, set, take, drop, length-drop}
-use lib.Seq.{sets, sets-eq, take-suc, take-suc-set, take-at, take-set-le, drop-at, drop-set-lt, drop-set-add, getD-drop, length-take-le}
+use lib.Seq.{sets, sets-eq, take-suc, take-suc-set, take-at, take-set-le, drop-at, drop-set-lt, drop-set-add, getD-take, getD-drop, ext-getD, length-take-le}
 use lib.Dec.{eqb}
-use Rattle.tables.specs.Layout.{tableCount, wOf, nOf, size, View, tabOf, view, putT, runT, Run}
-use Rattle.tables.specs.Layout.Laws.{tabs-same, tabOf-from, tabOf-long, base-le}
+use Rattle.labels.specs.Core.{wordsAt}
+use Rattle.labels.specs.Core.Bytes.{wordsAt-length}
+use Rattle.labels.specs.Core.InPlace.{wordsAt-at}
+use Rattle.tables.specs.Layout.{tableCount, wOf, nOf, base, size, View, tabOf, view, putT, runT, Slot, Run}
+use Rattle.tables.specs.Layout.Laws.{tabs-same, tabOf-from, tabOf-long, base-le, slot-get}
 
 -- the places of a run are below the book's length
 pub run-small : (b : List ℕ) (t w i n : ℕ) → Run b t w i n → 0 < w → i + n ≤ size
@@ -86,3 +89,24 @@ sets-before l i (v ∷ vs) j n h = sets-before (set l i v) (suc i) vs j n (omega
 pub sets-behind : (l : List ℕ) (i : ℕ) (vs : List ℕ) (j : ℕ) → i + length vs ≤ j → drop j (sets l i vs) ≡ drop j l
 sets-behind l i [] j h = refl
 sets-behind l i (v ∷ vs) j h = sets-behind (set l i v) (suc i) vs j (omega arith) ∙ drop-set-lt j l i v (omega arith)
+
+-- ---- a run where it stands
+
+-- it lies within the book
+pub run-room : (b : List ℕ) (t i n : ℕ) → Run b t 8 i n → base t + i * 8 + n * 8 ≤ length b
+run-room b t i n r =
+    let e : nOf t * wOf t ≡ nOf t * 8 = ap (λ (x : ℕ). nOf t * x) (r .wide) in
+    omega (arith, base-le t tableCount (r .table), e, r .place, r .whole)
+
+-- and its numbers are the words that the book's bytes spell there
+pub run-words : (b : List ℕ) (t i n : ℕ) → Run b t 8 i n → wordsAt n b (base t + i * 8) ≡ take n (drop i (tabOf (view b) t))
+run-words b t i n r =
+    let l = tabOf (view b) t in
+    let words = wordsAt n b (base t + i * 8) in
+    let long : length words ≡ length (take n (drop i l)) =
+    wordsAt-length n b (base t + i * 8) ∙ sym (length-take-le n (drop i l) (simp length-drop (omega (arith, run-long b t 8 i n r)))) in
+    ext-getD 0 words (take n (drop i l)) long (λ j q.
+    let h : j < n = omega (arith, wordsAt-length n b (base t + i * 8)) in
+    let s : Slot b t 8 (i + j) = record { whole = r .whole; table = r .table; wide = r .wide; place = omega (arith, r .place) } in
+    wordsAt-at n b (base t + i * 8) j h ∙ slot-get b t 8 (i + j) (base t + i * 8 + j * 8) s (omega arith)
+    ∙ sym (getD-take n (drop i l) j 0 h ∙ getD-drop i l j 0))

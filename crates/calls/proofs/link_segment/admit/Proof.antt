@@ -54,6 +54,12 @@ returns-4 c =
     (test-passed _ _ _ _ (ap not (m ∙ c .before .before .if1 .left))
     (test-failed _ _ _ (x ∙ not-true (c .before .fixed-of .result) (c .if2 .taken)))))
 
+link-of-requires : tie.Need-link-of-requires
+link-of-requires c κs =
+    let up8 = c .before .before .before .before .before .before .before .before in
+    let given = up8 .before .before .before .before .before .before .before .pre in
+    (given .0, given .3 .low)
+
 returns-5 : tie.Need-returns-5
 returns-5 c =
     let up8 = c .before .before .before .before .before .before .before .before in
@@ -69,6 +75,13 @@ returns-5 c =
     (test-passed _ _ _ _ (ap not (m ∙ c .before .before .before .before .before .if1 .left))
     (test-passed _ _ _ _ (x ∙ not-false (c .before .before .before .before .fixed-of .result) (c .before .before .before .if2 .left))
     (test-failed _ _ _ (on-at _ _ (λ k. false) true (l ∙ c .enum-told4 .given .1))))))
+
+spare-of-requires : tie.Need-spare-of-requires
+spare-of-requires c κs =
+    let up8 = c .before .before .before .before .before .before .before .before in
+    let up16 = up8 .before .before .before .before .before .before .before .before in
+    let given = up16 .before .before .pre in
+    (given .0, given .1, given .3)
 
 quota-of-requires : tie.Need-quota-of-requires
 quota-of-requires c κs =
@@ -135,11 +148,11 @@ admit-spec =
     returns-3
     (λ c κs. search needs)
     returns-4
-    (λ c κs. search needs)
+    link-of-requires
     (λ c. search needs)
     (λ c. search needs)
     returns-5
-    (λ c κs. search needs)
+    spare-of-requires
     quota-of-requires
     returns-6
     returns-7)
