@@ -20,18 +20,18 @@ fi
 # Debian's rustc has a library for x86-64 on a machine of any kind, which another one may lack.
 rustc=${FLYTEWOOD_RUSTC:-/usr/bin/rustc}
 
-# Whether a file of the crates that the archive is made of is newer than it.
-archive_is_old() {
+# crates_are_newer ARCHIVE CRATE: whether a file of the crate, or of one that it uses, is newer than its archive.
+crates_are_newer() {
     local crate newer
-    for crate in flytewood $(sed -n 's/^flytewood: *//p' crates.txt); do
-        newer=$(find "crates/$crate" -name must-fail -prune -o -type f -newer "$archive" -print -quit)
+    for crate in "$2" $(sed -n "s/^$2: *//p" crates.txt); do
+        newer=$(find "crates/$crate" -name must-fail -prune -o -type f -newer "$1" -print -quit)
         [ -z "$newer" ] || return 0
     done
     return 1
 }
 
 archive_is_ready() {
-    [ -f "$archive" ] && { [ -n "${FLYTEWOOD_ARCHIVE_DIR:-}" ] || ! archive_is_old; }
+    [ -f "$archive" ] && { [ -n "${FLYTEWOOD_ARCHIVE_DIR:-}" ] || ! crates_are_newer "$archive" flytewood; }
 }
 
 # Ends with what is missing, if there is no archive and no way to build it. Scripts ask first of all.
@@ -52,8 +52,13 @@ need_archive() {
     need_kit
     archive_is_ready && return
     echo "proving the kernel and building $archive (minutes on a new machine; each crate is named once proved)" >&2
-    rt staticlib flytewood 2>&1 | grep --line-buffered '^rt:' >&2 || {
-        echo "the archive could not be built; target/log/ has what rt said" >&2
+    build_archive flytewood
+}
+
+# build_archive CRATE: names each crate once it is proved.
+build_archive() {
+    rt staticlib "$1" 2>&1 | grep --line-buffered '^rt:' >&2 || {
+        echo "the archive of $1 could not be built; target/log/ has what rt said" >&2
         exit 1
     }
 }

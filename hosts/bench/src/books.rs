@@ -115,12 +115,14 @@ pub fn started_with(calls: &[Call]) -> (Areas, Vec<u64>) {
     (areas, values)
 }
 
-/// As many containers as can be, each in the one before.
-pub fn deepest_chain() -> (Areas, u64) {
+/// As many containers as can be, each in the one before: the root holds the thread too, so the first has 254 units.
+pub const LONGEST_CHAIN: u64 = 254;
+
+/// So many containers, each in the one before; and the first of them.
+pub fn chain(length: u64) -> (Areas, u64) {
     let mut areas = started();
     let (mut d, mut first) = (ROOT, ROOT);
-    // The root holds the thread too, so its first container has 254.
-    for quota in (1..=254).rev() {
+    for quota in (1..=length).rev() {
         let made = granted(&mut areas, &ask::container(d, plain(), 0, quota));
         first = if d == ROOT { made } else { first };
         d = made;

@@ -1,5 +1,7 @@
-//! When the kernel is too slow to land. The aim is a ratio of 1.2 (report.rs); this is the limit that the gate holds it to.
+//! When the kernel is too slow, or takes too much stack, to land. The aim is a ratio of 1.2 (report.rs); this is the limit
+//! that the gate holds it to.
 
+use crate::report::Depth;
 use std::io::BufRead;
 
 /// Machines are noisy, so a ratio counts only above this.
@@ -7,6 +9,10 @@ const LIMIT: f64 = 2.0;
 
 /// So many ratios may be above it all the same. A call that is slow at every size has four.
 const SPARED: usize = 3;
+
+/// The stack of the smallest board that the kernel is to run on (W4), for every call, the host's wrapper included. A
+/// deep tree cut by call 8 takes more.
+pub const STACK: usize = 2048;
 
 /// What was measured, in words, and its ratio.
 pub struct Ratio {
@@ -29,6 +35,21 @@ pub fn is_kept(ratios: &[Ratio]) -> bool {
         SPARED
     );
     slow.iter().for_each(|one| println!("    {}: {:.2}", one.name, one.ratio));
+    kept
+}
+
+/// Names the calls that take more stack than there is; whether there is none.
+pub fn is_shallow(depths: &[Depth]) -> bool {
+    let deep: Vec<&Depth> = depths.iter().filter(|one| one.first > STACK).collect();
+    let kept = !depths.is_empty() && deep.is_empty();
+    println!(
+        "{}: {} of {} calls take more than {} bytes of stack.",
+        if kept { "Limit kept" } else { "TOO DEEP" },
+        deep.len(),
+        depths.len(),
+        STACK
+    );
+    deep.iter().for_each(|one| println!("    {}: {}", one.name, one.first));
     kept
 }
 

@@ -1,5 +1,5 @@
 //! The benchmark: every call at four sizes of book, in the proved kernel and in an independent Rust kernel on the same
-//! bytes, in one run; then how the times grow, and the stack that the deepest call uses.
+//! bytes, in one run; then how the times grow, and the stack that the calls use.
 
 mod asking;
 mod books;
@@ -23,9 +23,10 @@ use std::process::ExitCode;
 const SAMPLES: usize = 2_000;
 const KERNELS: [Asked; 2] = [proved, written_in_rust];
 
-/// Takes the number of samples, and the exit status is 1 if the kernel is too slow. Or, for a profiler, a kernel (proved
-/// or rust), a call as the table names it, a size and how often to make the call. Or, to try the limit: a number of
-/// samples and `slowed`, for a kernel that is too slow, or `judge`, for ratios from the standard input.
+/// Takes the number of samples, and the exit status is 1 if the kernel is too slow or takes too much stack. Or, for a
+/// profiler, a kernel (proved or rust), a call as the table names it, a size and how often to make the call. Or, to try
+/// the limits: a number of samples and `slowed` or `deepened`, for a kernel that is too slow or takes a page of stack
+/// more; or `judge`, for ratios from the standard input.
 fn main() -> ExitCode {
     let arguments: Vec<String> = env::args().skip(1).collect();
     let words: Vec<&str> = arguments.iter().map(|word| &word[..]).collect();
@@ -34,6 +35,7 @@ fn main() -> ExitCode {
         ["judge"] => limit::is_kept(&limit::read(io::stdin().lock())),
         [samples] => measure(number(samples), KERNELS),
         [samples, "slowed"] => measure(number(samples), [slowed, written_in_rust]),
+        [samples, "deepened"] => measure(number(samples), [deepened, written_in_rust]),
         [kernel, name, size, times] => repeat(kernel, name, number(size), number(times)),
         _ => panic!("unknown arguments: {:?}", words),
     };
@@ -44,18 +46,29 @@ fn main() -> ExitCode {
     }
 }
 
-/// Prints all tables; whether the limit is kept.
+/// Prints all tables; whether the limits are kept.
 fn measure(samples: usize, kernels: [Asked; 2]) -> bool {
     let table = table(&Clock::new(samples.max(1)), kernels);
+    let depths = depths(kernels);
     report::print_times(&SIZES, &table);
     report::print_growth(&table);
-    report::print_stack(&depths());
-    limit::is_kept(&report::ratios(&table))
+    report::print_stack(&depths);
+    print_chains(kernels[0]);
+    let fast = limit::is_kept(&report::ratios(&table));
+    limit::is_shallow(&depths) && fast
 }
 
 /// A kernel that is too slow.
 fn slowed(areas: &mut Areas, caller: u64, call: &Call, given: &mut Given) {
     (0..5).for_each(|_| proved(areas, caller, call, given));
+}
+
+/// A kernel that takes too much stack.
+fn deepened(areas: &mut Areas, caller: u64, call: &Call, given: &mut Given) {
+    let more = [0u8; 4096];
+    proved(areas, caller, call, given);
+    // SAFETY: it is a reference. A read that has to be made keeps the bytes on the stack.
+    unsafe { std::ptr::read_volatile(&more) };
 }
 
 fn number(text: &str) -> usize {
@@ -87,18 +100,27 @@ fn same_in_both(case: &Case) {
     assert_eq!(given[0].reply.answer, case.answer, "{} at {} objects", case.name, case.objects);
 }
 
-/// The stack that each call uses on the largest book, and call 8 on containers as deep as can be.
-fn depths() -> Vec<Depth> {
-    let (areas, first) = books::deepest_chain();
-    let cut = ask::unreference(books::ROOT, first);
-    let depth = |name, areas: &Areas, call| {
-        let [first, second] = KERNELS.map(|kernel| stack::used(kernel, areas, call));
-        Depth { name, first, second }
+/// The stack that each call uses on the largest book.
+fn depths(kernels: [Asked; 2]) -> Vec<Depth> {
+    let depth = |case: &Case| {
+        let [first, second] = kernels.map(|kernel| stack::used(kernel, &case.areas, &case.call));
+        Depth { name: case.name, first, second }
     };
-    let mut all = vec![depth("8, of 254 containers in a chain", &areas, &cut)];
-    let largest = cases(SIZES[SIZES.len() - 1]);
-    all.extend(largest.iter().map(|case| depth(case.name, &case.areas, &case.call)));
-    all
+    cases(SIZES[SIZES.len() - 1]).iter().map(depth).collect()
+}
+
+/// The stack of call 8 on a chain of containers, which it goes down by recursion.
+fn cut_of_chain(kernel: Asked, length: u64) -> usize {
+    let (areas, first) = books::chain(length);
+    stack::used(kernel, &areas, &ask::unreference(books::ROOT, first))
+}
+
+fn print_chains(kernel: Asked) {
+    let longest = cut_of_chain(kernel, books::LONGEST_CHAIN);
+    let a_level = (longest - cut_of_chain(kernel, books::LONGEST_CHAIN - 100)) as f64 / 100.0;
+    let fitting =
+        (1..=books::LONGEST_CHAIN).take_while(|length| cut_of_chain(kernel, *length) <= limit::STACK).last();
+    report::print_chains(books::LONGEST_CHAIN, longest, a_level, fitting.unwrap_or(0));
 }
 
 /// One kernel and one call, many times.

@@ -125,3 +125,10 @@ pub fn print_stack(depths: &[Depth]) {
         print_row(&[depth.name.to_string(), depth.first.to_string(), depth.second.to_string()], &widths);
     }
 }
+
+/// Call 8 on containers each of which holds the next.
+pub fn print_chains(longest: u64, bytes: usize, a_level: f64, fitting: u64) {
+    println!();
+    println!("Call 8 on a chain of {} containers: {} bytes, {:.1} for each level.", longest, bytes, a_level);
+    println!("A chain of {} fits into {} bytes.", fitting, crate::limit::STACK);
+}

@@ -1,0 +1,2 @@
+-- What the two functions answer.
+pub mod Answers
