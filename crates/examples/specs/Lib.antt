@@ -1,6 +1,7 @@
 -- Worked examples: what docs/RULES.md says of them (section 10), and what an independent program says, comes
 -- out of the definitions of `labels` and `rules` by computing.
 pub mod Paper
+pub mod InPlace
 pub mod Play
 pub mod Grantday
 pub mod Errors
