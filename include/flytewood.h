@@ -16,6 +16,8 @@
  *     also a null one; pointers to numbers are never null.
  *   - Between calls nothing but calls touches the two areas. (A call checks them all the same, and answers 1.)
  *   - One call at a time on the same two areas.
+ *   - Stack enough: no call takes more than 2,048 bytes, but for fw_unreference on deep trees, which takes 48 bytes for
+ *     each container on the way down. Measured, not proved (docs/PERFORMANCE.md).
  *
  * Numbers
  *   Every call takes the next number, granted or not, except after answers 1 and 2. An id or a category that a call

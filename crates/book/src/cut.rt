@@ -1,6 +1,6 @@
 // Call 8 on the book: a link is cut with all that hangs on it. Links are turned off down the tree, then rows without a link are freed, then their blocks.
 ghost use mathlib.Core.Path.{_≡_};
-ghost use Prim.Native.Nat.{_<_};
+ghost use Prim.Native.Nat.{_+_, _<_};
 ghost use lib.ListN.{length};
 ghost use Rattle.tables.specs.Layout.{view, size, rowCount, linkCount, blockCount};
 ghost use Rattle.book.specs.Enact.{areaSize, enactView, enactArea};
@@ -13,6 +13,7 @@ use super::kinds::FREE;
 use super::numbers::index;
 use super::numbers::row_of;
 use tables::BLOCKS;
+use tables::BOOK_LEN;
 use tables::ID;
 use tables::KIND;
 use tables::LINK_FROM;
@@ -29,23 +30,29 @@ use tables::root;
 
 // ---- links
 
-// Turns link l off, and, where it leads to a container, each link in that, and so on down. The number of live links falls at each call.
-fn turn_off(b: &mut [u8], l: usize)
+// Turns link l off, and, where it leads to a container, each link in that, and so on down: the number of live links falls at each call. A level of the
+// recursion takes 48 bytes of stack: the link after l is answered, the mark is read anew and the part lent has a known length, so none of them is kept.
+fn turn_off(b: &mut [u8], l: usize) -> usize
     requires { ⌜ Linked (now b) l ⌝ }
+    ensures { λ r. ⌜ r ≡ l + 1 ⌝ }
     ensures { λ _. ⌜ Unlinked (view (now (b .entry))) l (view (now (b .exit))) ⌝ }
 {
     let o = get16(b, LINK_TO, l);
     put16(b, LINK_FROM, l, 0);
-    if get8(b, KIND, index(o)) == CONTAINER {
-        let mark = o + 1;
-        let mut k: usize = 0;
-        while k < LINKS {
-            if get16(b, LINK_FROM, k) == mark {
-                turn_off(b, k);
-            }
+    if get8(b, KIND, index(o)) != CONTAINER {
+        return l + 1;
+    }
+    let mut mark = o + 1;
+    let mut k: usize = 0;
+    while k < LINKS {
+        if get16(b, LINK_FROM, k) == mark {
+            k = turn_off(&mut b[0..BOOK_LEN], k);
+            mark = get16(b, LINK_TO, l) + 1;
+        } else {
             k += 1;
         }
     }
+    l + 1
 }
 
 // ---- rows

@@ -5,9 +5,9 @@ use native.Mathlib.Omega.{arith}
 use mathlib.Core.Bool.{not}
 use mathlib.Core.Logic.{_⊎_, inl, inr, ⊎-elim}
 use mathlib.Core.Path.{_≡_, refl, sym, _∙_, ap, subst}
-use mathlib.Core.List.{List}
-use lib.ListN.{length, getD, set}
-use lib.Seq.{getD-set-same, getD-set-other}
+use mathlib.Core.List.{List, _++_, append-nil}
+use lib.ListN.{length, getD, set, take, drop, drop-of-length-le}
+use lib.Seq.{getD-set-same, getD-set-other, take-all}
 use lib.Dec.{eqb}
 use Rattle.quotas.specs.Sum.{Σ, when, sum-lt, when-true, when-false, when-le}
 use Rattle.rules.specs.Kernel.{containerCode}
@@ -158,6 +158,14 @@ module _ (v : View) (l : ℕ) (on : On v l) where
             ⊎-elim {C = (Goes v l i × (markOf u i ≡ 0)) ⊎ ((Goes v l i → ⊥) × (markOf u i ≡ markOf v i))}
             (λ q. inl q) (λ q. inr ((λ g. goes-on g .used (sym q ∙ all-off g)), q)) (s .only i)
 
+-- ---- the whole book lent as a part, and what comes back
+
+pub part-whole : (b : List ℕ) → length b ≡ size → take size b ≡ b
+part-whole b e = take-all size b (omega arith)
+
+pub back-whole : (b z : List ℕ) → length b ≡ size → z ++ drop size b ≡ z
+back-whole b z e = ap (λ (x : List ℕ). z ++ x) (drop-of-length-le b {i = size} (omega arith)) ∙ append-nil z
+
 -- ---- as the code goes, over a book's bytes
 
 module _ (e : List ℕ) (l : ℕ) (ok : Linked e l) where
@@ -171,6 +179,10 @@ module _ (e : List ℕ) (l : ℕ) (ok : Linked e l) where
     pub ends-kept : (i : ℕ) → On (view b) i → toOf (view b) i < rowCount
     ends-kept i a =
         subst (λ (x : ℕ). x < rowCount) (sym (ap (λ (x : View). toOf x i) (s .rest))) (ok .ends i (was-on (view e) l (ok .on) (view b) (s .only) i a))
+
+    -- link l leads where it led
+    pub object-kept : toOf (view b) l ≡ toOf (view e) l
+    object-kept = ap (λ (x : View). toOf x l) (s .rest)
 
     -- a mark that is one more than l's object is that of a live link in it
     module _ (m : ℕ) (read : m ≡ markOf (view b) k) (low : k < linkCount) where

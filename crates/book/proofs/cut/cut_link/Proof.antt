@@ -14,7 +14,7 @@ sweep-rows-requires : tie.Need-sweep-rows-requires
 sweep-rows-requires c κs =
     let a = c .before .before .before .before .before .before .before .args in
     let off = c .before .before .before .turn-off in
-    still-ended (a .b .now) (a .area .now) (a .l) (c .before .before .before .before .before .before .before .pre) (off .last .0) (off .ensures) (off .kept .0)
+    still-ended (a .b .now) (a .area .now) (a .l) (c .before .before .before .before .before .before .before .pre) (off .last .0) (off .ensures .1) (off .kept .0)
 
 sweep-blocks-requires : tie.Need-sweep-blocks-requires
 sweep-blocks-requires c κs =
@@ -22,7 +22,7 @@ sweep-blocks-requires c κs =
     let p = c .before .before .before .before .before .before .before .before .before .before .before .before .pre in
     let off = c .before .before .before .before .before .before .before .before .turn-off in
     let rows = c .before .before .before .before .sweep-rows in
-    (still-blocked (a .b .now) (a .area .now) (a .l) p (off .last .0) (off .ensures) (rows .last .0) (rows .ensures) (rows .kept .0 ∙ off .kept .0), p .areaSized)
+    (still-blocked (a .b .now) (a .area .now) (a .l) p (off .last .0) (off .ensures .1) (rows .last .0) (rows .ensures) (rows .kept .0 ∙ off .kept .0), p .areaSized)
 
 returns : tie.Need-returns
 returns c =
@@ -32,7 +32,7 @@ returns c =
     let off = up8 .before .before .before .before .before .turn-off in
     let rows = up8 .before .sweep-rows in
     let blocks = c .before .before .before .before .sweep-blocks in
-    whole-cut (a .b .now) (a .area .now) (a .l) (up16 .before .pre) (off .last .0) (off .ensures) (rows .last .0) (rows .ensures)
+    whole-cut (a .b .now) (a .area .now) (a .l) (up16 .before .pre) (off .last .0) (off .ensures .1) (rows .last .0) (rows .ensures)
     (view (blocks .last .0)) (blocks .ensures .0) (blocks .last .1 .0) (blocks .ensures .1)
 
 pub cut-link-spec : {M : Type 1} → statement M
