@@ -1,4 +1,4 @@
-// The label conditions of answer 7, one shape for all: passed, or the refusal. X is held in a, Y in b and Z in c.
+// The label conditions of answer 7, one shape for all: passed, or the refusal. X or T is held in a, Y or O in b, and Z in c.
 ghost use mathlib.Core.Path.{_≡_};
 ghost use mathlib.Core.List.{[], _∷_};
 ghost use Rattle.labels.specs.Core.{unread, heldIn};

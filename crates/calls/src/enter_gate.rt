@@ -166,6 +166,7 @@ pub fn enter_gate(
         Judged::Go(t, r) => {
             let value = entry_number_of(b, r);
             closure_into(b, r, out);
+            // Values, since they are stored.
             let taken = labels::bytes::from_bytes(lr);
             let limit = labels::bytes::from_bytes(cr);
             take_labels(b, t, taken, limit);

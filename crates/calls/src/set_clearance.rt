@@ -62,6 +62,7 @@ pub fn set_clearance(b: &mut [u8], area: &mut [u8], caller: u64, clearance: &[u8
         Judged::Go(t, _) => t,
         Judged::No(r) => return leave(b, r),
     };
+    // Values, since they are stored.
     let taken = labels::bytes::from_bytes(clearance);
     let mine = book::find::label_of(b, t);
     take_labels(b, t, mine, taken);

@@ -61,6 +61,7 @@ pub fn set_label(b: &mut [u8], area: &mut [u8], caller: u64, label: &[u8]) -> An
         Judged::Go(t, _) => t,
         Judged::No(r) => return leave(b, r),
     };
+    // Values, since they are stored.
     let taken = labels::bytes::from_bytes(label);
     let cleared = book::find::clearance_of(b, t);
     take_labels(b, t, taken, cleared);

@@ -53,7 +53,7 @@ fn measure(samples: usize, kernels: [Asked; 2]) -> bool {
     report::print_times(&SIZES, &table);
     report::print_growth(&table);
     report::print_stack(&depths);
-    print_chains(kernels[0]);
+    print_chains(kernels);
     let fast = limit::is_kept(&report::ratios(&table));
     limit::is_shallow(&depths) && fast
 }
@@ -115,12 +115,16 @@ fn cut_of_chain(kernel: Asked, length: u64) -> usize {
     stack::used(kernel, &areas, &ask::unreference(books::ROOT, first))
 }
 
-fn print_chains(kernel: Asked) {
-    let longest = cut_of_chain(kernel, books::LONGEST_CHAIN);
-    let a_level = (longest - cut_of_chain(kernel, books::LONGEST_CHAIN - 100)) as f64 / 100.0;
-    let fitting =
-        (1..=books::LONGEST_CHAIN).take_while(|length| cut_of_chain(kernel, *length) <= limit::STACK).last();
-    report::print_chains(books::LONGEST_CHAIN, longest, a_level, fitting.unwrap_or(0));
+fn print_chains(kernels: [Asked; 2]) {
+    let longest = kernels.map(|kernel| cut_of_chain(kernel, books::LONGEST_CHAIN));
+    let fits = |length: &u64| cut_of_chain(kernels[0], *length) <= limit::STACK;
+    let a_level = (longest[0] - cut_of_chain(kernels[0], books::LONGEST_CHAIN - 100)) as f64 / 100.0;
+    report::print_chains(
+        books::LONGEST_CHAIN,
+        longest,
+        a_level,
+        (1..=books::LONGEST_CHAIN).take_while(fits).count(),
+    );
 }
 
 /// One kernel and one call, many times.

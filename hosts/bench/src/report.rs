@@ -127,8 +127,16 @@ pub fn print_stack(depths: &[Depth]) {
 }
 
 /// Call 8 on containers each of which holds the next.
-pub fn print_chains(longest: u64, bytes: usize, a_level: f64, fitting: u64) {
+pub fn print_chains(longest: u64, bytes: [usize; 2], a_level: f64, fitting: usize) {
     println!();
-    println!("Call 8 on a chain of {} containers: {} bytes, {:.1} for each level.", longest, bytes, a_level);
-    println!("A chain of {} fits into {} bytes.", fitting, crate::limit::STACK);
+    println!(
+        "Call 8 on a chain of {} containers: {} bytes, {:.1} for each level;",
+        longest, bytes[0], a_level
+    );
+    println!(
+        "in the Rust kernel {} bytes. A chain of {} fits into {} bytes.",
+        bytes[1],
+        fitting,
+        crate::limit::STACK
+    );
 }
