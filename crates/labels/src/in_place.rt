@@ -24,7 +24,7 @@ pub fn from_bytes(b: &[u8]) -> Held
 
 // The bytes of a label's words, where they are held: none, if they would reach past the end.
 pub fn words_of<'a>(b: &'a [u8], h: Held) -> &'a [u8]
-    ensures { λ r. ⌜ spelt (now r) ≡ heldIn (now (b .entry)) h .words ⌝ }
+    ensures { λ r. ⌜ (spelt (now r) ≡ heldIn (now (b .entry)) h .words) × (length (now r) ≡ length (heldIn (now (b .entry)) h .words) * 8) ⌝ }
 {
     let from = h.from;
     let n = b.len();

@@ -66,17 +66,30 @@ spelt-part n b from h =
 
 -- ---- the words of a held label, as a part of the bytes that hold it
 
-pub held-part : (b part : List ℕ) (h : Held) → h .from + wordCount * 8 ≤ length b → part ≡ take (h .from + wordCount * 8 - h .from) (drop (h .from) b)
-    → spelt part ≡ heldIn b h .words
+part-spelt : (b part : List ℕ) (h : Held) → h .from + wordCount * 8 ≤ length b → part ≡ take (wordCount * 8) (drop (h .from) b) → spelt part ≡ heldIn b h .words
 unfolding heldIn
+part-spelt b part h l e = rw (le-leb (h .from + wordCount * 8) (length b) l) (ap spelt e ∙ spelt-part wordCount b (h .from) l)
+
+past-spelt : (b part : List ℕ) (h : Held) → length b < h .from + wordCount * 8 → part ≡ [] → spelt part ≡ heldIn b h .words
+unfolding heldIn spelt wordsAt
+past-spelt b part h l e = rw (lt-leb (h .from + wordCount * 8) (length b) l) (ap spelt e)
+
+-- the words, and no byte more than they have
+with-length : (b part : List ℕ) (h : Held) (n : ℕ) → length part ≡ n * 8 → spelt part ≡ heldIn b h .words
+    → (spelt part ≡ heldIn b h .words) × (length part ≡ length (heldIn b h .words) * 8)
+with-length b part h n f e = (e, omega (arith, f, spelt-length part, ap length e))
+
+pub held-part : (b part : List ℕ) (h : Held) → h .from + wordCount * 8 ≤ length b → part ≡ take (h .from + wordCount * 8 - h .from) (drop (h .from) b)
+    → (spelt part ≡ heldIn b h .words) × (length part ≡ length (heldIn b h .words) * 8)
 held-part b part h l e =
     let m : h .from + wordCount * 8 - h .from ≡ wordCount * 8 = omega arith in
-    rw (le-leb (h .from + wordCount * 8) (length b) l)
-    (ap spelt (e ∙ ap (λ (n : ℕ). take n (drop (h .from) b)) m) ∙ spelt-part wordCount b (h .from) l)
+    let whole : part ≡ take (wordCount * 8) (drop (h .from) b) = e ∙ ap (λ (n : ℕ). take n (drop (h .from) b)) m in
+    let long : length (take (wordCount * 8) (drop (h .from) b)) ≡ wordCount * 8 = length-take-le (wordCount * 8) (drop (h .from) b) (simp length-drop (omega arith)) in
+    with-length b part h wordCount (ap length whole ∙ long) (part-spelt b part h l whole)
 
-pub held-past : (b part : List ℕ) (h : Held) → length b < h .from + wordCount * 8 → part ≡ [] → spelt part ≡ heldIn b h .words
-unfolding heldIn spelt wordsAt
-held-past b part h l e = rw (lt-leb (h .from + wordCount * 8) (length b) l) (ap spelt e)
+pub held-past : (b part : List ℕ) (h : Held) → length b < h .from + wordCount * 8 → part ≡ []
+    → (spelt part ≡ heldIn b h .words) × (length part ≡ length (heldIn b h .words) * 8)
+held-past b part h l e = with-length b part h 0 (ap length e) (past-spelt b part h l e)
 
 -- at most as many as a label has
 pub held-most : (b : List ℕ) (h : Held) → length (heldIn b h .words) ≤ wordCount

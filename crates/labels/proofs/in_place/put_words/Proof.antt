@@ -21,7 +21,7 @@ loop-holds : tie.Need-loop-holds Inv-loop μ-loop
 loop-holds c =
     let w = c .words-of in
     let a = c .before .before .before .args in
-    (refl, omega (arith, spelt-length (w .result .now), ap length (w .ensures), held-most (a .b .now) (a .h)), omega arith, refl, omega arith, refl)
+    (refl, omega (arith, spelt-length (w .result .now), ap length (w .ensures .0), held-most (a .b .now) (a .h)), omega arith, refl, omega arith, refl)
 
 word-at-requires : tie.Need-word-at-requires Inv-loop μ-loop
 word-at-requires c κs = omega (arith, c .before .before .loop .inv .0)
@@ -61,7 +61,7 @@ returns c =
     let w = c .before .before .words-of in
     let a = c .before .before .before .before .before .args in
     let q = spelt-length (w .result .now) in
-    sym (ap (pasted (a .out .now) (a .from)) (sym (w .ensures)) ∙ l .inv .5 ∙ write-end (l .out) (l .place) _ (l .i) (omega (arith, l .inv .0, q)))
+    sym (ap (pasted (a .out .now) (a .from)) (sym (w .ensures .0)) ∙ l .inv .5 ∙ write-end (l .out) (l .place) _ (l .i) (omega (arith, l .inv .0, q)))
 
 pub put-words-spec : {M : Type 1} → statement M
 put-words-spec =
