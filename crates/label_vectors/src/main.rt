@@ -1,5 +1,7 @@
 // Answers cases for the label rules, a line each. A case is 204 bytes: the operation, a number n in eight bytes, and the
 // labels X, Y and Z in 65 bytes each. The operations are in hosts/README.md.
+#![tactic(auto)]
+
 ghost use Rattle.std.specs.Prelude.{◌≡◌, ◌+◌, ◌*◌, ◌≤◌, ◌<◌, length};
 ghost use Rattle.labels.specs.Core.{held_in};
 ghost use Rattle.label_vectors.specs.Asked.{asked};
