@@ -6,8 +6,6 @@ pub mod WorldSound
 pub mod SoundBy
 pub mod Room
 pub mod Tests
-pub mod Means
-pub mod MeansBlocks
 pub mod MeansLinks
 pub mod MeansRows
 pub mod Shapes
@@ -19,8 +17,6 @@ pub mod Tally
 pub mod Judged
 pub mod Find
 pub mod Start
-pub mod Seen
-pub mod Once
 pub mod Marks
 pub mod Filled
 pub mod Make

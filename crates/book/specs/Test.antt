@@ -1,4 +1,4 @@
--- Section 5 of docs/RULES.md, when a book is sound, as a test that computes. Laws/Means says that it holds
+-- Section 5 of docs/RULES.md, when a book is sound, as a test that computes. proofs/Laws/Means says that it holds
 -- exactly of sound books.
 use Rattle.std.specs.Prelude.{ℕ, zero, suc, ◌+◌, ◌-◌, Bool, true, false, not, cond, ◌&&◌, List, length, eqb, leb, ltb}
 use Rattle.std.specs.Int.Bits.{bit_or}

@@ -12,7 +12,7 @@ use Rattle.rules.specs.Kernel.{flow, reading, writing, floor_flow, flow_join, fl
 use Rattle.rules.specs.Kernel.{or_default, kind_code, is_live, is_thread, is_gate, is_segment, is_container, has_clearance, blank, nothing}
 use Rattle.rules.specs.Sound.{Sound}
 use Rattle.rules.specs.Histories.{first_world, WellStarted}
-use Rattle.rules.specs.Theorems.StaysSound.{start_is_sound, history_sound}
+use Rattle.rules.proofs.Theorems.StaysSound.{start_is_sound, history_sound}
 use Rattle.examples.specs.Play.{Turn, Said, turn, said, run, end, words_for, lent, zeros32, into}
 
 unfoldable pub one : List ℕ

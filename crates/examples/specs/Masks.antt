@@ -16,8 +16,8 @@ use Rattle.rules.specs.Sound.{Sound}
 use Rattle.rules.specs.Fair.{Linked}
 use Rattle.rules.specs.Histories.{first_world, WellStarted}
 use Rattle.rules.specs.Masks.{forbidden_in}
-use Rattle.rules.specs.Laws.Keep.{keep_sound}
-use Rattle.rules.specs.Theorems.StaysSound.{start_is_sound, history_sound}
+use Rattle.rules.proofs.Laws.Keep.{keep_sound}
+use Rattle.rules.proofs.Theorems.StaysSound.{start_is_sound, history_sound}
 use Rattle.examples.specs.Play.{Turn, Said, turn, said, run, words_for, lent, zeros32, into}
 
 unfoldable pub one : List ℕ

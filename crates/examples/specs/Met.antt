@@ -17,9 +17,9 @@ use Rattle.rules.specs.Histories.{first_world, WellStarted}
 use Rattle.rules.specs.Ledger.{line_if, line_of, granted, granted_by, charge, charge_by, reckoned, takes_units, asked_of, units_asked, refused_earlier, writer, Meanwhile, nothing_yet, another}
 use Rattle.rules.specs.Trees.{in_tree}
 use Rattle.rules.specs.Written.{last_written, left_by}
-use Rattle.rules.specs.Theorems.StaysSound.{start_is_sound, history_sound}
-use Rattle.rules.specs.Theorems.Granted.{room_is_kept, growth_is_kept}
-use Rattle.rules.specs.Theorems.Shrinks.{reckoned_shrinks_by}
+use Rattle.rules.proofs.Theorems.StaysSound.{start_is_sound, history_sound}
+use Rattle.rules.proofs.Theorems.Granted.{room_is_kept, growth_is_kept}
+use Rattle.rules.proofs.Theorems.Shrinks.{reckoned_shrinks_by}
 use Rattle.examples.specs.Play.{words_for, lent, zeros32, bytes_b, into}
 
 unfoldable pub one : List ℕ

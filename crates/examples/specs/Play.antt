@@ -3,7 +3,7 @@ use Rattle.std.specs.Prelude.{ℕ, zero, suc, ◌-◌, ◌<◌, Bool, true, ◌&
 use Rattle.std.proofs.Common.{arith, ltb-true}
 use Rattle.labels.specs.Core.{label_bytes, word_of, word_count}
 use Rattle.rules.specs.Kernel.{World, Call, start, call, after, answer_of, value_of, output_of}
-use Rattle.rules.specs.Laws.Bools.{and_l, and_r}
+use Rattle.rules.proofs.Laws.Bools.{and_l, and_r}
 
 pub record Turn : Type 0 where
   pub caller : ℕ

@@ -18,12 +18,12 @@ use Rattle.rules.specs.Kernel.{segment_of, gate_of, thread_of, cleared_at, look_
 use Rattle.rules.specs.Kernel.{is_container, has_clearance, blank, nothing}
 use Rattle.rules.specs.Sound.{Sound}
 use Rattle.rules.specs.Histories.{first_world}
-use Rattle.rules.specs.Laws.Bools.{and_l, and_r, not_both, and_i, bool_cases}
-use Rattle.rules.specs.Laws.Usage.{held_below, holder_below}
-use Rattle.rules.specs.Theorems.StaysSound.{start_is_sound, history_sound}
+use Rattle.rules.proofs.Laws.Bools.{and_l, and_r, not_both, and_i, bool_cases}
+use Rattle.rules.proofs.Laws.Usage.{held_below, holder_below}
+use Rattle.rules.proofs.Theorems.StaysSound.{start_is_sound, history_sound}
 use Rattle.tainted.specs.Tainted.{untainted, untainted_container, untainted_caller, tainted_caller, UntaintedStart, AlikeHistories, same_start, SameUntainted}
 use Rattle.tainted.specs.Tainted as taint
-use Rattle.tainted.specs.Theorem.{tainted_work_does_not_show}
+use Rattle.tainted.proofs.Theorem.{tainted_work_does_not_show}
 use Rattle.examples.specs.Play.{Turn, Said, turn, said, run, end, words_for, lent, zeros32}
 
 -- ---- the terms of the start, as tests that compute

@@ -9,8 +9,8 @@ use Rattle.std.proofs.Math.Dec.{eqb}
 use Rattle.std.specs.Int.{w8}
 use Rattle.rules.specs.Kernel.{Call, Verdict, refused, grant, answer_of, value_of, output_of}
 use Rattle.rules.specs.Answers.{output_size}
-use Rattle.rules.specs.Laws.Bools.{bool_cases}
-use Rattle.rules.specs.Theorems.Outputs.{no_output}
+use Rattle.rules.proofs.Laws.Bools.{bool_cases}
+use Rattle.rules.proofs.Theorems.Outputs.{no_output}
 use Rattle.tables.specs.Layout.{view}
 use Rattle.book.specs.Book.{world_of}
 use Rattle.book.specs.Test.{areas_b}

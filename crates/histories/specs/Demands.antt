@@ -1,4 +1,4 @@
--- The tester's demands as statements about the two lent areas. docs/DEMANDS.md quotes the demands and explains each word; Theorems has the proofs.
+-- The tester's demands as statements about the two lent areas. docs/DEMANDS.md quotes the demands and explains each word; proofs/Theorems has the proofs.
 --
 -- Read `After h b area` as "after the history h the book is b and the data area is area", `Called b area c x out answer value b' area' out'` as "the call x by c, on these
 -- areas, returned answer and value and left b', area' and out'", `Started b area f answer b' area'` the same of Start at f, and `world b area` as "the objects, links and bytes

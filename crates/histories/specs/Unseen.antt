@@ -1,4 +1,4 @@
--- W5, "Tainted work must not show" (RULES 12), as statements about the two lent areas; Theorems has the proofs,
+-- W5, "Tainted work must not show" (RULES 12), as statements about the two lent areas; proofs/Theorems has the proofs,
 -- and docs/DEMANDS.md explains each word. What is tainted, and which start is meant, is said in `tainted`. A
 -- world has no positions. RULES 12.6: "Which rows, links and blocks are used may differ, .."
 use Rattle.std.specs.Prelude.{ℕ, ◌<◌, true, ◌≡◌, List}

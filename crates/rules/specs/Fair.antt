@@ -1,4 +1,4 @@
--- What the change of a granted call is known to respect. Laws/Grants shows it of every granted call, Laws/Keep that such a change keeps a world sound.
+-- What the change of a granted call is known to respect. proofs/Laws/Grants shows it of every granted call, proofs/Laws/Keep that such a change keeps a world sound.
 use Rattle.std.specs.Prelude.{ℕ, suc, ◌+◌, ◌≤◌, true, false, ◌||◌, ◌≡◌, List, [], length}
 use Rattle.std.specs.Int.Bits.{bit_or}
 use Rattle.labels.specs.declared.Label.{Label}

@@ -1,6 +1,6 @@
 -- The rules of docs/RULES.md, and what follows from them. A reader has to believe Kernel and Sound, and for
 -- the theorems over histories the definitions in Histories, Ledger, Written, Issued, Trees, Masks, Answers
--- and Named; Laws and Theorems are proved.
+-- and Named; Laws and Theorems, in proofs/, are proved.
 pub mod Kernel
 pub mod Sound
 pub mod Fair
@@ -12,5 +12,3 @@ pub mod Written
 pub mod Issued
 pub mod Trees
 pub mod Masks
-pub mod Laws
-pub mod Theorems

@@ -27,7 +27,7 @@ pub record Formed (n : ℕ) (x : Obj) : Type 0 where
   pub clearance : has_clearance x.kind ≡ true → well_formed n false x.clearance ≡ true
 
 -- RULES 5.5: "One container of quota 256 is the root, linked nowhere, and all other containers hang from it
--- in a tree. (No cycle is possible: by 5.8 the quota falls along each link.)" Laws/Falls has the proof of
+-- in a tree. (No cycle is possible: by 5.8 the quota falls along each link.)" proofs/Laws/Falls has the proof of
 -- that. 5.1: ".. a link leads from a container to an object, .."
 pub record Tree (w : World) : Type 0 where
   pub root_container : is_container (w.obj w.root).kind ≡ true

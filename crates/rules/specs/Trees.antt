@@ -19,7 +19,7 @@ without d o f e p = f e p && not (eqb e d && eqb p o)
 abbrev pub StillReached : World → ℕ → ℕ → ℕ → Type 0
 StillReached w d o p = Way (without d o w.linked) w.root p
 
--- o lies in the tree of d, d itself included; in a sound world this is `Reaches w d o`, computed (Theorems/Holds)
+-- o lies in the tree of d, d itself included; in a sound world this is `Reaches w d o`, computed (proofs/Theorems/Holds)
 abbrev pub in_tree : World → ℕ → ℕ → Bool
 in_tree w d o = below w d o
 

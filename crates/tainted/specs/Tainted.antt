@@ -1,5 +1,5 @@
 -- Request W5 of the user, that tainted work must not show (docs/RULES.md, section 12), as a statement about
--- worlds; Theorem has its proof. RULES 12.6: "Which rows, links and blocks are used may differ, ..": a world
+-- worlds; proofs/Theorem has its proof. RULES 12.6: "Which rows, links and blocks are used may differ, ..": a world
 -- has no rows, link places or blocks. 12.3: "No call answers 1.": it has no areas, so in its histories none
 -- does.
 use Rattle.std.specs.Prelude.{ℕ, ◌<◌, Bool, true, not, ◌&&◌, ◌↔◌, ◌≡◌, leb}

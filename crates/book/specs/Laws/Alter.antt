@@ -17,10 +17,10 @@ use Rattle.labels.specs.Core.Same.{label_ext}
 use Rattle.quotas.specs.Any.{any, both}
 use Rattle.quotas.specs.Sum.{Σ, when}
 use Rattle.rules.specs.Kernel.{gate_code, segment_code, max_code, blank, Edit, relabel, fix, requota, edit, keep, alter, apply, has_clearance, is_segment, Obj, altered}
-use Rattle.rules.specs.Laws.Bools.{bool_cases}
-use Rattle.rules.specs.Laws.Put.{put_same, put_other}
+use Rattle.rules.proofs.Laws.Bools.{bool_cases}
+use Rattle.rules.proofs.Laws.Put.{put_same, put_other}
 use Rattle.tables.specs.Layout.{View, row_count, link_count, block_count, next_t, fixed_t, quota_t, label_default_t, label_words_t, clear_default_t, clear_words_t, put_t, run_t}
-use Rattle.rules.specs.Laws.Worlds.{world_ext}
+use Rattle.rules.proofs.Laws.Worlds.{world_ext}
 use Rattle.tables.specs.Layout.Laws.{within}
 use Rattle.tables.specs.Layout.Runs.{sets_read, sets_before, sets_behind}
 use Rattle.book.specs.Book.{next_of, root_of, id_of, code_of, fixed_of, quota_of, len_of, label_of, clearance_of, from_of, to_of, owner_of, index_of, blocks_of, first, block_at, place_of}

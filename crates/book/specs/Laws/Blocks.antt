@@ -7,7 +7,7 @@ use Rattle.std.proofs.Common.{◌∙◌, eqb-true, eq-eqb}
 use Rattle.quotas.specs.Any.{both_of, both_parts}
 use Rattle.quotas.specs.Sum.{Σ, when, put, put_here, put_else, sum_change, sum_term, sum_only, found, when_true, when_false}
 use Rattle.rules.specs.Kernel.{segment_code, block_size}
-use Rattle.rules.specs.Laws.Bools.{not_i}
+use Rattle.rules.proofs.Laws.Bools.{not_i}
 use Rattle.tables.specs.Layout.{View, block_count}
 use Rattle.book.specs.declared.Found.TheVariants.{At}
 use Rattle.book.specs.Book.{code_of, len_of, owner_of, index_of, blocks_of, is_block, first, block_at, place_of}

@@ -10,7 +10,7 @@ use borrow.Author.Tests.{eqb-true, eqb-false, ne_eqb, ltb-true, ltb-false}
 use Rattle.labels.specs.declared.Label.{Label}
 use Rattle.rules.specs.Kernel.{segment_code, Obj, Edit, relabel, fix, requota, rewrite, Change, keep, alter, create, cut, link, kept, block_size}
 use Rattle.rules.specs.Fair.{Fair}
-use Rattle.rules.specs.Laws.Bools.{bool_cases}
+use Rattle.rules.proofs.Laws.Bools.{bool_cases}
 use Rattle.tables.specs.Layout.{View, row_count, block_count, index_t}
 use Rattle.book.specs.Book.{next_of, id_of, code_of, len_of, quota_of, owner_of, index_of, blocks_of, row_of, world_of}
 use Rattle.book.specs.Sound.{Live, Sound}

@@ -10,7 +10,7 @@ use Rattle.std.proofs.Math.ListN.{get_or-eq_default}
 use borrow.Author.Tests.{le-leb, lt-ltb, le-ltb, ltb-true, ltb-false, leb-true, eq-eqb, ne_eqb}
 use Rattle.quotas.specs.Any.{no_both, both, both_of, both_parts}
 use Rattle.rules.specs.Kernel.{block_size}
-use Rattle.rules.specs.Laws.Bools.{bool_cases, not_i, same_by}
+use Rattle.rules.proofs.Laws.Bools.{bool_cases, not_i, same_by}
 use Rattle.tables.specs.Layout.{View, block_count, len_t, owner_t, index_t, on_tab, put_t}
 use Rattle.book.specs.declared.Found.TheVariants.{At, Nothing}
 use Rattle.book.specs.Book.{len_of, owner_of, index_of, blocks_of, is_block, first, collect}

@@ -4,8 +4,8 @@ use Rattle.std.proofs.Common.{arith, ◌∙◌, ap, ap₂, eqb-true, eq-eqb, ne_
 use Rattle.std.proofs.Math.Path.{sym}
 use Rattle.std.proofs.lemmas.Bool.{eqb-false}
 use Rattle.rules.specs.Kernel.{thread_code, gate_code, segment_code, container_code, max_code, Kind, kind_code, is_live, is_thread, is_gate, is_segment, is_container, has_clearance}
-use Rattle.rules.specs.Laws.Bools.{bool_cases, same_by, or_cases, or_i_l, or_i_r}
-use Rattle.rules.specs.Laws.Kinds.{code_from, code_other}
+use Rattle.rules.proofs.Laws.Bools.{bool_cases, same_by, or_cases, or_i_l, or_i_r}
+use Rattle.rules.proofs.Laws.Kinds.{code_from, code_other}
 use Rattle.book.specs.Book.{kind_from, is_thread_or_gate}
 
 -- a test of a code other than 0

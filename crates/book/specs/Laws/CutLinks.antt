@@ -8,8 +8,8 @@ use mathlib.Core.List.{List}
 use borrow.Author.Tests.{eqb-true, eqb-false, eq-eqb, ne_eqb, not-true, not-false}
 use Rattle.quotas.specs.Any.{any_of, any_found, both, either, both_of, both_parts, either_left, either_right, either_parts}
 use Rattle.rules.specs.Kernel.{segment_code, under, below, stays, kept, root_quota, block_size}
-use Rattle.rules.specs.Laws.Bools.{bool_cases, not_i, not_both, same_by}
-use Rattle.rules.specs.Laws.Below.{under_step, below_self, below_down, stays_linked, stays_not_below, stays_not_cut, stays_i, stays_kept, root_kept, kept_cases}
+use Rattle.rules.proofs.Laws.Bools.{bool_cases, not_i, not_both, same_by}
+use Rattle.rules.proofs.Laws.Below.{under_step, below_self, below_down, stays_linked, stays_not_below, stays_not_cut, stays_i, stays_kept, root_kept, kept_cases}
 use Rattle.tables.specs.Layout.{View, view, row_count, link_count, block_count, kind_t, link_from_t, owner_t, on_tab}
 use Rattle.book.specs.Book.{next_of, root_of, id_of, code_of, mark_of, from_of, to_of, owner_of, live_link, collect, world_of}
 use Rattle.book.specs.Sound.{Live, On, Used, Sound}

@@ -8,10 +8,10 @@ use Rattle.std.proofs.Math.ListN.{get_or}
 use Rattle.quotas.specs.Any.{both, both_parts}
 use Rattle.quotas.specs.Sum.{when, sum_cong, sum_pos, when_pos}
 use Rattle.rules.specs.Kernel.{segment_code, container_code, Obj, nothing, cut, stays, kept, apply, block_size}
-use Rattle.rules.specs.Laws.Bools.{bool_cases, not_both, same_by}
-use Rattle.rules.specs.Laws.Below.{stays_linked, stays_not_below, stays_kept, container_kept}
+use Rattle.rules.proofs.Laws.Bools.{bool_cases, not_both, same_by}
+use Rattle.rules.proofs.Laws.Below.{stays_linked, stays_not_below, stays_kept, container_kept}
 use Rattle.tables.specs.Layout.{View, row_count, link_count, block_count, next_t, kind_t, link_from_t, owner_t}
-use Rattle.rules.specs.Laws.Worlds.{world_ext}
+use Rattle.rules.proofs.Laws.Worlds.{world_ext}
 use Rattle.book.specs.declared.Found.{Found}
 use Rattle.book.specs.declared.Found.TheVariants.{At}
 use Rattle.book.specs.Book.{next_of, root_of, id_of, code_of, fixed_of, len_of, mark_of, from_of, to_of, owner_of, index_of, blocks_of, first, on_found, is_block, block_at, place_of}

@@ -8,9 +8,9 @@ use Rattle.labels.specs.declared.Label.{Label}
 use Rattle.rules.specs.Kernel.{thread_code, segment_code, is_live, is_thread, is_segment, is_container, Edit, relabel, fix, requota, Change, keep, alter, apply, last_number}
 use Rattle.rules.specs.Sound as W
 use Rattle.rules.specs.Fair.{Fair}
-use Rattle.rules.specs.Laws.Bools.{or_cases}
-use Rattle.rules.specs.Laws.Kinds.{thread_live, segment_live, container_live}
-use Rattle.rules.specs.Laws.Keep.{keep_sound}
+use Rattle.rules.proofs.Laws.Bools.{or_cases}
+use Rattle.rules.proofs.Laws.Kinds.{thread_live, segment_live, container_live}
+use Rattle.rules.proofs.Laws.Keep.{keep_sound}
 use Rattle.tables.specs.Layout.{View}
 use Rattle.book.specs.declared.Found.TheVariants.{At}
 use Rattle.book.specs.Book.{next_of, id_of, code_of, row_of, world_of}

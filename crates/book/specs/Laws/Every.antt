@@ -4,7 +4,7 @@ use Rattle.std.proofs.Common.{arith, sym, ◌∙◌}
 use Rattle.std.proofs.Math.Path.{ap}
 use Rattle.rules.specs.Kernel.{relabel, fix, requota, rewrite, Change, keep, alter, create, cut, link, apply, last_number}
 use Rattle.rules.specs.Fair.{Fair}
-use Rattle.rules.specs.Laws.Kinds.{segment_live}
+use Rattle.rules.proofs.Laws.Kinds.{segment_live}
 use Rattle.tables.specs.Layout.{View}
 use Rattle.book.specs.Book.{next_of, quota_of, world_of}
 use Rattle.book.specs.Sound.{Sound}

@@ -16,8 +16,8 @@ use Rattle.book.specs.Book.{kind_from, object_at, of_kind, standing}
 use Rattle.book.specs.Shape.{Shape}
 use Rattle.book.specs.Enact.{padded, relabelled, row_filled}
 use Rattle.labels.specs.Core.Same.{label_ext}
-use Rattle.rules.specs.Laws.Kinds.{kind_from_lem}
-use Rattle.rules.specs.Laws.Worlds.{obj_ext}
+use Rattle.rules.proofs.Laws.Kinds.{kind_from_lem}
+use Rattle.rules.proofs.Laws.Worlds.{obj_ext}
 use Rattle.book.specs.Laws.Shapes.{put_shape, run_shape}
 use Rattle.book.specs.Laws.Alter.{run_here, run_elsewhere, relabelled_shape}
 use Rattle.book.specs.Laws.Handed.{padded_all}

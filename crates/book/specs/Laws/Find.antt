@@ -8,8 +8,8 @@ use Rattle.labels.specs.declared.Label.{Label}
 use Rattle.labels.specs.Core.{may_read}
 use Rattle.quotas.specs.Any.{both, both_of, both_parts}
 use Rattle.rules.specs.Kernel.{thread_code, container_code, kind_code, is_thread, is_container, Obj, nothing, opens, entry}
-use Rattle.rules.specs.Laws.Bools.{bool_cases, not_i, not_both}
-use Rattle.rules.specs.Laws.Kinds.{nothing_no_container}
+use Rattle.rules.proofs.Laws.Bools.{bool_cases, not_i, not_both}
+use Rattle.rules.proofs.Laws.Kinds.{nothing_no_container}
 use Rattle.tables.specs.Layout.{View, row_count, link_count}
 use Rattle.book.specs.declared.Found.TheVariants.{At, Nothing}
 use Rattle.book.specs.declared.find.Entry.TheVariants as place

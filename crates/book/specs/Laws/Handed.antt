@@ -11,7 +11,7 @@ use Rattle.rules.specs.Kernel.{container, is_thread, is_gate, is_segment, is_con
 use Rattle.tables.specs.Layout.{View, id_t, kind_t, mask_t, fixed_t, quota_t, len_t, entry_t, label_default_t, label_words_t, clear_default_t, clear_words_t, description_t, closure_t, put_t, run_t}
 use Rattle.book.specs.declared.make.NewRow.{NewRow}
 use Rattle.book.specs.Enact.{padded, relabelled, row_filled}
-use Rattle.rules.specs.Laws.Kinds.{kind_from_lem}
+use Rattle.rules.proofs.Laws.Kinds.{kind_from_lem}
 use Rattle.book.specs.Book.{kind_from}
 use Rattle.book.specs.Make.{object_of, Handed, numbers_filled}
 

@@ -13,7 +13,7 @@ use Rattle.std.proofs.Math.Dec.{eqb}
 use borrow.Author.Tests.{eqb-true, eq-eqb, leb-true, leb-false, le-leb}
 use Rattle.quotas.specs.Any.{no_both, both_of, both_parts}
 use Rattle.rules.specs.Kernel.{block_size}
-use Rattle.rules.specs.Laws.Bools.{bool_cases, not_i}
+use Rattle.rules.proofs.Laws.Bools.{bool_cases, not_i}
 use Rattle.tables.specs.Layout.{View, block_count, len_t, owner_t, index_t, on_tab, put_t}
 use Rattle.book.specs.declared.Found.TheVariants.{At}
 use Rattle.book.specs.Book.{len_of, owner_of, index_of, blocks_of}

@@ -7,7 +7,7 @@ use Rattle.std.proofs.Math.Path.{sym, ap, subst}
 use Rattle.std.proofs.Common.{◌∙◌, eqb-true}
 use Rattle.rules.specs.Kernel.{container_code, is_live, is_container, Obj, use_of, spare_of, create, link, apply}
 use Rattle.rules.specs.Fair.{Fair, Made}
-use Rattle.rules.specs.Laws.Kinds.{segment_live, container_live}
+use Rattle.rules.proofs.Laws.Kinds.{segment_live, container_live}
 use Rattle.tables.specs.Layout.{View}
 use Rattle.book.specs.declared.Found.TheVariants.{At}
 use Rattle.book.specs.Book.{next_of, id_of, code_of, row_of, world_of}

@@ -10,10 +10,10 @@ use Rattle.std.proofs.Math.Dec.{eqb}
 use borrow.Author.Tests.{eqb-true, eq-eqb}
 use Rattle.quotas.specs.Any.{both, both_of, both_parts}
 use Rattle.rules.specs.Kernel.{segment_code, container_code, max_code, Obj, kind_code, create, link, put, link_in, apply, spare_of}
-use Rattle.rules.specs.Laws.Bools.{not_i, not_both, same_by}
-use Rattle.rules.specs.Laws.Put.{put_same, put_other, link_new, link_old, link_cases}
-use Rattle.rules.specs.Laws.Kinds.{kind_most}
-use Rattle.rules.specs.Laws.Worlds.{world_ext}
+use Rattle.rules.proofs.Laws.Bools.{not_i, not_both, same_by}
+use Rattle.rules.proofs.Laws.Put.{put_same, put_other, link_new, link_old, link_cases}
+use Rattle.rules.proofs.Laws.Kinds.{kind_most}
+use Rattle.rules.proofs.Laws.Worlds.{world_ext}
 use Rattle.tables.specs.Layout.{View, row_count, link_count, next_t, link_from_t, link_to_t}
 use Rattle.book.specs.declared.Found.TheVariants.{At}
 use Rattle.book.specs.Book.{next_of, root_of, id_of, code_of, fixed_of, len_of, mark_of, from_of, to_of, owner_of, index_of}

@@ -10,9 +10,9 @@ use Rattle.std.proofs.Math.ListN.{length, get_or-eq_default}
 use borrow.Author.Tests.{eqb-true, leb-true, leb-false, ltb-true, ltb-false, lt-leb}
 use Rattle.quotas.specs.Any.{no_both, both_parts}
 use Rattle.rules.specs.Kernel.{segment_code, block_size, rewrite, alter, resized}
-use Rattle.rules.specs.Laws.Bools.{bool_cases}
-use Rattle.rules.specs.Laws.Bytes.{resized_at}
-use Rattle.rules.specs.Laws.Lengths.{resized_length}
+use Rattle.rules.proofs.Laws.Bools.{bool_cases}
+use Rattle.rules.proofs.Laws.Bytes.{resized_at}
+use Rattle.rules.proofs.Laws.Lengths.{resized_length}
 use Rattle.tables.specs.Layout.{View, row_count, block_count, index_t}
 use Rattle.book.specs.declared.Found.TheVariants.{At}
 use Rattle.book.specs.Book.{id_of, code_of, len_of, owner_of, index_of, blocks_of, is_block, first, bytes_of, row_of}

@@ -9,10 +9,10 @@ use Rattle.std.proofs.Math.ListN.{get_or}
 use borrow.Author.Tests.{eqb-true, eqb-false, eq-eqb, ne_eqb, lt-ltb, le-ltb, le-leb, lt-leb}
 use Rattle.quotas.specs.Any.{both}
 use Rattle.rules.specs.Kernel.{segment_code, block_size, rewrite, alter, edit, put, apply}
-use Rattle.rules.specs.Laws.Bools.{bool_cases}
-use Rattle.rules.specs.Laws.Put.{put_same, put_other}
+use Rattle.rules.proofs.Laws.Bools.{bool_cases}
+use Rattle.rules.proofs.Laws.Put.{put_same, put_other}
 use Rattle.tables.specs.Layout.{View, row_count, block_count, next_t, len_t, owner_t, index_t, on_tab}
-use Rattle.rules.specs.Laws.Worlds.{world_ext}
+use Rattle.rules.proofs.Laws.Worlds.{world_ext}
 use Rattle.book.specs.Book.{next_of, id_of, code_of, len_of, owner_of, index_of, blocks_of, block_at, place_of, bytes_of, object_at, row_of, world_of}
 use Rattle.book.specs.Sound.{Live, Used, Owned, times_held}
 use Rattle.book.specs.Placed.{Placed}

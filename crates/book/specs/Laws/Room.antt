@@ -12,7 +12,7 @@ use Rattle.quotas.specs.Tree as tree
 use Rattle.quotas.specs.Room.{row_free, link_free}
 use Rattle.quotas.specs.Reach.{Blocks, blocks_held}
 use Rattle.rules.specs.Kernel.{segment_code, container_code, spare_of, units}
-use Rattle.rules.specs.Laws.Bools.{bool_cases, not_i, not_both, same_by}
+use Rattle.rules.proofs.Laws.Bools.{bool_cases, not_i, not_both, same_by}
 use Rattle.tables.specs.Layout.{View, row_count, link_count, block_count}
 use Rattle.book.specs.declared.Found.TheVariants.{At}
 use Rattle.book.specs.Book.{id_of, root_of, code_of, quota_of, len_of, mark_of, from_of, to_of, owner_of, index_of, live_row, live_link, blocks_of, is_block, first, world_of}

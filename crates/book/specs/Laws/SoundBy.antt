@@ -7,9 +7,9 @@ use Rattle.std.proofs.lemmas.Bool.{eqb-false}
 use Rattle.labels.specs.Core.{well_formed, flows}
 use Rattle.rules.specs.Kernel.{gate_code, segment_code, container_code, is_container, has_clearance, Obj, units, max_mask, max_length}
 use Rattle.rules.specs.Sound as W
-use Rattle.rules.specs.Laws.Bools.{bool_cases, not_both}
-use Rattle.rules.specs.Laws.Kinds.{container_live}
-use Rattle.rules.specs.Laws.Falls.{quota_most}
+use Rattle.rules.proofs.Laws.Bools.{bool_cases, not_both}
+use Rattle.rules.proofs.Laws.Kinds.{container_live}
+use Rattle.rules.proofs.Laws.Falls.{quota_most}
 use Rattle.tables.specs.Layout.{View}
 use Rattle.book.specs.Book.{next_of, root_of, id_of, code_of, mask_of, fixed_of, quota_of, len_of, label_of, clearance_of, from_of, to_of, object_at, world_of, ThreadOrGate, is_thread_or_gate}
 use Rattle.book.specs.Sound.{Live, On, Range, Ends, Root, Sound, links_to, charged_to}

@@ -11,11 +11,11 @@ use borrow.Author.Tests.{eqb-true, leb-true, ltb-true, ltb-false}
 use Rattle.labels.specs.Core.{plain, level1, level2}
 use Rattle.rules.specs.Kernel.{Obj, nothing, put, link_in, container_of, thread_of, start, startable, last_number, root_quota, text_size}
 use Rattle.rules.specs.Sound as W
-use Rattle.rules.specs.Laws.Bools.{and_r, not_i, bool_cases}
-use Rattle.rules.specs.Laws.Put.{put_same, put_other}
-use Rattle.rules.specs.Laws.StartSound.{start_sound}
-use Rattle.rules.specs.Laws.Kinds.{kind_most}
-use Rattle.rules.specs.Laws.Worlds.{world_ext}
+use Rattle.rules.proofs.Laws.Bools.{and_r, not_i, bool_cases}
+use Rattle.rules.proofs.Laws.Put.{put_same, put_other}
+use Rattle.rules.proofs.Laws.StartSound.{start_sound}
+use Rattle.rules.proofs.Laws.Kinds.{kind_most}
+use Rattle.rules.proofs.Laws.Worlds.{world_ext}
 use Rattle.tables.specs.Layout.{View, row_count, link_count, block_count, next_t, root_t, zeros, empty, put_t}
 use Rattle.book.specs.Book.{next_of, root_of, id_of, code_of, mark_of, owner_of, world_of}
 use Rattle.book.specs.Sound.{Live, On, Sound}

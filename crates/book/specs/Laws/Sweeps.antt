@@ -10,7 +10,7 @@ use Rattle.std.proofs.Math.Seq.{get_or-set_same, get_or-set_other}
 use borrow.Author.Tests.{eqb-true, eqb-false, eq-eqb, ne_eqb, ltb-true, ltb-false}
 use Rattle.quotas.specs.Any.{any, both, either}
 use Rattle.rules.specs.Kernel.{block_size}
-use Rattle.rules.specs.Laws.Bools.{bool_cases}
+use Rattle.rules.proofs.Laws.Bools.{bool_cases}
 use Rattle.tables.specs.Layout.{View, view, size, row_count, link_count, block_count, kind_t, owner_t, on_tab, put_t}
 use Rattle.book.specs.Book.{root_of, id_of, code_of, mark_of, to_of, owner_of, live_link, collect}
 use Rattle.book.specs.Enact.{area_size}

@@ -10,9 +10,9 @@ use Rattle.quotas.specs.Any.{no_both, any, any_found, any_of, both, both_of, bot
 use Rattle.quotas.specs.Sum.{Σ, when, sum_cong, sum_swap, sum_only, sum_none, sum_term, sum_pos, when_true, when_false, when_cong, when_none, when_le, when_pos}
 use Rattle.rules.specs.Kernel.{thread_code, gate_code, segment_code, container_code, max_code, is_live, is_thread, is_gate}
 use Rattle.rules.specs.Kernel.{is_segment, is_container, has_clearance, Obj, nothing, charged, use_of, spare_of, units}
-use Rattle.rules.specs.Laws.Bools.{bool_cases, not_i, not_both, same_by}
-use Rattle.rules.specs.Laws.Kinds.{nothing_dead}
-use Rattle.rules.specs.Laws.Usage.{use_container, use_segment, use_cleared}
+use Rattle.rules.proofs.Laws.Bools.{bool_cases, not_i, not_both, same_by}
+use Rattle.rules.proofs.Laws.Kinds.{nothing_dead}
+use Rattle.rules.proofs.Laws.Usage.{use_container, use_segment, use_cleared}
 use Rattle.tables.specs.Layout.{View, row_count, link_count}
 use Rattle.book.specs.declared.Found.TheVariants.{At, Nothing}
 use Rattle.book.specs.Book.{next_of, root_of, id_of, code_of, mask_of, fixed_of, quota_of, len_of, entry_of, label_of, clearance_of, description_of, closure_of, mark_of, from_of, to_of}

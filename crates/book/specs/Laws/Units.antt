@@ -6,7 +6,7 @@ use Rattle.std.proofs.Math.Path.{ap, ap₂}
 use Rattle.std.proofs.lemmas.Bool.{eqb-false, not-true}
 use Rattle.quotas.specs.Sum.{Σ, when, sum_more, when_true, when_false, when_none}
 use Rattle.rules.specs.Kernel.{segment_code, container_code, use_of, spare_of, units}
-use Rattle.rules.specs.Laws.Bools.{bool_cases}
+use Rattle.rules.proofs.Laws.Bools.{bool_cases}
 use Rattle.tables.specs.Layout.{View, row_count, link_count}
 use Rattle.book.specs.Book.{id_of, code_of, quota_of, len_of, mark_of, from_of, to_of, live_link, world_of}
 use Rattle.book.specs.Sound.{Live, Sound, charged_to}

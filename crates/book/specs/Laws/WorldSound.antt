@@ -7,8 +7,8 @@ use Rattle.labels.specs.declared.Label.{Label}
 use Rattle.labels.specs.Core.{well_formed, flows, word_count}
 use Rattle.rules.specs.Kernel.{gate_code, segment_code, container_code, is_live, is_container, has_clearance, Obj, use_of, text_size}
 use Rattle.rules.specs.Sound as W
-use Rattle.rules.specs.Laws.Bools.{bool_cases, not_i, not_both}
-use Rattle.rules.specs.Laws.Kinds.{cleared_live}
+use Rattle.rules.proofs.Laws.Bools.{bool_cases, not_i, not_both}
+use Rattle.rules.proofs.Laws.Kinds.{cleared_live}
 use Rattle.tables.specs.Layout.{View, row_count, label_words_t, clear_words_t, description_t, closure_t}
 use Rattle.book.specs.Book.{next_of, root_of, id_of, code_of, mask_of, fixed_of, label_of, clearance_of, from_of, to_of, object_at, world_of, ThreadOrGate, is_thread_or_gate}
 use Rattle.book.specs.Sound.{Live, Sound}

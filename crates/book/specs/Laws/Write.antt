@@ -11,8 +11,8 @@ use Rattle.std.proofs.Math.Seq.{length-sets, sets-eq}
 use Rattle.std.proofs.lemmas.List.{set-get_or}
 use Rattle.quotas.specs.Any.{no_both}
 use Rattle.rules.specs.Kernel.{segment_code, block_size, rewrite, alter, overwrite}
-use Rattle.rules.specs.Laws.Bools.{bool_cases, and_l, and_r, and_i, not_i}
-use Rattle.rules.specs.Laws.Bytes.{overwrite_at, overwrite_length}
+use Rattle.rules.proofs.Laws.Bools.{bool_cases, and_l, and_r, and_i, not_i}
+use Rattle.rules.proofs.Laws.Bytes.{overwrite_at, overwrite_length}
 use Rattle.tables.specs.Layout.{View, block_count, len_t, owner_t, on_tab, put_t}
 use Rattle.book.specs.Book.{id_of, code_of, len_of, owner_of, index_of, blocks_of, is_block, first, block_at, place_of, bytes_of, row_of}
 use Rattle.book.specs.Sound.{Live}

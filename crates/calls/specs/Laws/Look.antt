@@ -7,7 +7,7 @@ use Rattle.labels.specs.declared.Label.{Label}
 use Rattle.labels.specs.Core.{may_read, words_bytes, word_count}
 use Rattle.labels.specs.Core.Formed.{formed_default_top}
 use Rattle.rules.specs.Kernel.{thread_code, max_code, Obj, refuse, grant, must, judge, opens, entry, look, keep, kind_code, look_bytes, look_size, good_arguments}
-use Rattle.rules.specs.Laws.Kinds.{code_from}
+use Rattle.rules.proofs.Laws.Kinds.{code_from}
 use Rattle.tables.specs.Layout.{View, view}
 use Rattle.book.specs.declared.Found.TheVariants.{At, Nothing}
 use Rattle.book.specs.declared.find.Entry.TheVariants as place

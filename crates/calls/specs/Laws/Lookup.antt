@@ -6,7 +6,7 @@ use Rattle.std.proofs.Math.Path.{ap}
 use Rattle.std.proofs.Math.Dec.{eqb}
 use Rattle.labels.specs.Core.{may_read}
 use Rattle.rules.specs.Kernel.{container_code, Kind, kind_code, Obj, opens, forbids, fits, spare_of}
-use Rattle.rules.specs.Laws.Bools.{bool_cases}
+use Rattle.rules.proofs.Laws.Bools.{bool_cases}
 use Rattle.tables.specs.Layout.{View, view}
 use Rattle.book.specs.declared.Found.TheVariants.{At, Nothing}
 use Rattle.book.specs.declared.find.Entry.TheVariants as place

@@ -4,7 +4,7 @@ use Rattle.std.proofs.Common.{arith, sym, subst, ◌∙◌, le-leb, leb-true, le
 use Rattle.std.proofs.Math.Path.{ap}
 use Rattle.std.proofs.lemmas.Bool.{lt-leb}
 use Rattle.rules.specs.Kernel.{segment_code, Verdict, refuse, must, block_size, max_block}
-use Rattle.rules.specs.Laws.Bools.{and_l, and_r}
+use Rattle.rules.proofs.Laws.Bools.{and_l, and_r}
 use Rattle.tables.specs.Layout.{View, view, block_count}
 use Rattle.book.specs.declared.Found.TheVariants.{At, Nothing}
 use Rattle.book.specs.declared.find.Entry.TheVariants as place

@@ -11,7 +11,7 @@ use Rattle.book.specs.Book.{next_of, world_of}
 use Rattle.book.specs.Sound.{Sound}
 use Rattle.book.specs.Enact.{area_size, moved_on, enact_view, enact_area}
 use Rattle.book.specs.Test.{areas_b, sound_b}
-use Rattle.book.specs.Laws.Means.{sound_means}
+use Rattle.book.proofs.Laws.Means.{sound_means}
 use Rattle.book.specs.Laws.Shapes.{view_shape}
 use Rattle.book.specs.Laws.WorldSound.{world_sound}
 use Rattle.calls.specs.declared.Answer.TheVariants.{Granted, Refused}

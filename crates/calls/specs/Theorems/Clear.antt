@@ -2,9 +2,9 @@
 use Rattle.std.specs.Prelude.{ℕ, true, ◌≡◌, refl, List, leb}
 use Rattle.std.proofs.Common.{sym, subst}
 use Rattle.rules.specs.Kernel.{Call, number_of, Verdict, refused, grant, call}
-use Rattle.rules.specs.Laws.Bools.{bool_cases}
-use Rattle.rules.specs.Laws.Grants.{grants_fair}
-use Rattle.rules.specs.Laws.Must.{passed}
+use Rattle.rules.proofs.Laws.Bools.{bool_cases}
+use Rattle.rules.proofs.Laws.Grants.{grants_fair}
+use Rattle.rules.proofs.Laws.Must.{passed}
 use Rattle.tables.specs.Layout.{View, view}
 use Rattle.book.specs.Book.{world_of}
 use Rattle.book.specs.Test.{areas_b}

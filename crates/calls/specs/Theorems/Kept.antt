@@ -8,16 +8,16 @@ use borrow.Author.Tests.{eq-eqb, leb-true}
 use Rattle.rules.specs.Kernel.{Call, Edit, relabel, fix, requota, rewrite, Change, keep, alter, create, cut, link, Refusal, by, number_of, Verdict, refused, grant, call, tests}
 use Rattle.rules.specs.Kernel.{after, leaves, apply, last_number}
 use Rattle.rules.specs.Fair.{Fair}
-use Rattle.rules.specs.Laws.Bools.{bool_cases, not_both}
-use Rattle.rules.specs.Laws.Grants.{grants_fair}
-use Rattle.rules.specs.Laws.Must.{passed}
+use Rattle.rules.proofs.Laws.Bools.{bool_cases, not_both}
+use Rattle.rules.proofs.Laws.Grants.{grants_fair}
+use Rattle.rules.proofs.Laws.Must.{passed}
 use Rattle.tables.specs.Layout.{View, view, size}
 use Rattle.book.specs.Book.{next_of, row_of, world_of}
 use Rattle.book.specs.Sound.{Sound}
 use Rattle.book.specs.Enact.{area_size, enact_view, enact_area, altered_area, area_after, cut_area}
 use Rattle.book.specs.Test.{areas_b}
 use Rattle.book.specs.Laws.First.{collect_length, found_cases, on_at, on_nothing}
-use Rattle.book.specs.Laws.Means.{sound_means}
+use Rattle.book.proofs.Laws.Means.{sound_means}
 use Rattle.book.specs.Laws.Shapes.{view_shape}
 use Rattle.book.specs.Laws.Enacted.{enacted_sound}
 use Rattle.book.specs.Laws.Every.{Storable, every_enacted}

@@ -5,7 +5,7 @@ use Rattle.std.proofs.Common.{ap₂, ◌∙◌}
 use Rattle.std.specs.Borrow.{Bor}
 use Rattle.rules.specs.Kernel as kernel
 use Rattle.rules.specs.Kernel.{Call, by, Verdict, refused, grant, read, answer_of, value_of}
-use Rattle.rules.specs.Laws.Must.{refuse_no_grant}
+use Rattle.rules.proofs.Laws.Must.{refuse_no_grant}
 use Rattle.calls.specs.declared.Answer.{Answer}
 use Rattle.calls.specs.declared.Answer.TheVariants.{Granted, Refused}
 use Rattle.calls.specs.declared.read.Located.{Located}

@@ -6,7 +6,7 @@ use Rattle.std.proofs.Common.{subst, ◌∙◌, le-leb}
 use Rattle.std.proofs.lemmas.Bool.{lt-leb}
 use Rattle.rules.specs.Kernel as kernel
 use Rattle.rules.specs.Kernel.{Call, Refusal, Verdict, refused, grant, answer_of, value_of}
-use Rattle.rules.specs.Laws.Bools.{bool_cases}
+use Rattle.rules.proofs.Laws.Bools.{bool_cases}
 use Rattle.tables.specs.Layout.{view}
 use Rattle.tables.specs.Layout.Only.{view_only}
 use Rattle.book.specs.Enact.{moved_on}

@@ -1,4 +1,4 @@
-use Rattle.histories.specs.Laws.Spelled.{left_after}
+use Rattle.histories.proofs.Laws.Spelled.{left_after}
 use borrow.Author.Rules.{rules}
 use Rattle.grantday.proofs.keeps.Statement.{statement}
 use Rattle.grantday.proofs.keeps.Tie as tie

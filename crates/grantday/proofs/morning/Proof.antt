@@ -1,4 +1,4 @@
-use Rattle.histories.specs.Laws.Spelled.{start_begins}
+use Rattle.histories.proofs.Laws.Spelled.{start_begins}
 use Rattle.grantday.specs.Steps.{can_start}
 use borrow.Author.Rules.{rules}
 use Rattle.grantday.proofs.morning.Statement.{statement}

@@ -4,7 +4,7 @@ use borrow.Author.Tests.{eq-eqb, ne_eqb}
 use Rattle.tables.specs.Layout.{view}
 use Rattle.book.specs.Test.{block_b}
 use Rattle.book.specs.Laws.Tests.{no_true}
-use Rattle.book.specs.Laws.Seen.{seen_free, seen_more, block_new, block_twice}
+use Rattle.book.proofs.Laws.Seen.{seen_free, seen_more, block_new, block_twice}
 use Rattle.book.proofs.sound_blocks.block_ok.Goals as goal
 
 pub returns-then-get16-eq0 : goal.returns-then-get16-eq0

@@ -1,7 +1,7 @@
 use native.Mathlib.Omega.{arith}
 use mathlib.Core.Path.{sym}
 use Rattle.tables.specs.Layout.{view}
-use Rattle.book.specs.Laws.Seen.{blocks_over}
+use Rattle.book.proofs.Laws.Seen.{blocks_over}
 use Rattle.book.proofs.sound_blocks.blocks_ok.Goals as goal
 
 pub returns-then-asked-gt-BLOCKS : goal.returns-then-asked-gt-BLOCKS

@@ -5,7 +5,7 @@ use mathlib.Core.Path.{◌≡◌, refl, sym, ◌∙◌}
 use Rattle.tables.specs.Layout.{view, block_count}
 use Rattle.book.specs.Test.{every, block_b, needed_blocks}
 use Rattle.book.specs.Laws.Tests.{every_more}
-use Rattle.book.specs.Laws.Seen.{seen_none, used_none, used_more, blocks_fail, blocks_end}
+use Rattle.book.proofs.Laws.Seen.{seen_none, used_none, used_more, blocks_fail, blocks_end}
 use Rattle.book.proofs.sound_blocks.each_ok.Goals as goal
 
 pub loop-i-init : goal.loop-i-init

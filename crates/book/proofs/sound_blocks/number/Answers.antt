@@ -3,8 +3,8 @@ use native.Mathlib.Omega.{arith}
 use mathlib.Core.Path.{◌≡◌, ◌∙◌, ap}
 use Rattle.book.specs.Seen.{offset_of, two_bytes}
 use Rattle.tables.specs.Layout.{view, row_count}
-use Rattle.book.specs.Laws.MeansBlocks.{owned_is}
-use Rattle.book.specs.Laws.Seen.{number_low, number_read, offset_most}
+use Rattle.book.proofs.Laws.MeansBlocks.{owned_is}
+use Rattle.book.proofs.Laws.Seen.{number_low, number_read, offset_most}
 use Rattle.book.proofs.sound_blocks.number.Goals as goal
 
 pub offset_bounds-offsets-owner : goal.offset_bounds-offsets-owner

@@ -3,7 +3,7 @@ use native.Mathlib.Omega.{arith}
 use mathlib.Core.Path.{◌≡◌, sym, ◌∙◌, ap, subst}
 use Rattle.tables.specs.Layout.{view, row_count}
 use Rattle.book.specs.Seen.{offset_of, two_bytes, Offsets}
-use Rattle.book.specs.Laws.Seen.{offset_none, offset_more, offset_all, offsets_none, offsets_more}
+use Rattle.book.proofs.Laws.Seen.{offset_none, offset_more, offset_all, offsets_none, offsets_more}
 use Rattle.book.proofs.sound_blocks.place.Goals as goal
 
 pub loop-i-init : goal.loop-i-init

@@ -5,7 +5,7 @@ use Rattle.book.specs.Book.{root_of, has_id}
 use Rattle.book.specs.Test.{links_b}
 use Rattle.book.specs.Tally.{tally_b}
 use Rattle.book.specs.Laws.Judged.{any_every}
-use Rattle.book.specs.Laws.Once.{tally_links, tally_once, tally_fails}
+use Rattle.book.proofs.Laws.Once.{tally_links, tally_once, tally_fails}
 use Rattle.book.proofs.sound_links.links_ok.Goals as goal
 
 pub returns-then-not-tally : goal.returns-then-not-tally

@@ -6,7 +6,7 @@ use borrow.Author.Tests.{eq-eqb}
 use Rattle.tables.specs.Layout.{view, row_count}
 use Rattle.book.specs.Test.{once_b}
 use Rattle.book.specs.Laws.Tally.{link_to_low}
-use Rattle.book.specs.Laws.Once.{once_first, once_again}
+use Rattle.book.proofs.Laws.Once.{once_first, once_again}
 use Rattle.book.proofs.sound_links.once.Goals as goal
 
 pub returns-then-get16-eq0 : goal.returns-then-get16-eq0

@@ -7,7 +7,7 @@ use Rattle.book.specs.Test.{every, link_b, once_b}
 use Rattle.book.specs.Tally.{Tallied}
 use Rattle.book.specs.Laws.Tests.{no_true, every_more}
 use Rattle.book.specs.Laws.Tally.{tallied_none}
-use Rattle.book.specs.Laws.Once.{tally_astray, tally_twice, tally_all}
+use Rattle.book.proofs.Laws.Once.{tally_astray, tally_twice, tally_all}
 use Rattle.book.proofs.sound_links.tally.Goals as goal
 
 pub loop-i-init : goal.loop-i-init

@@ -1,0 +1,2 @@
+-- What is proved of specs/Core and rests on the definitions of the comparisons.
+pub mod Compare

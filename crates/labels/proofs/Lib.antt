@@ -1,0 +1,2 @@
+-- What is proved of the comparisons of labels.
+pub mod Core

@@ -1,0 +1,3 @@
+-- Request W5 is proved: Theorem, and the Laws that it is made of.
+pub mod Laws
+pub mod Theorem
