@@ -1,4 +1,5 @@
 // The book: what the two lent areas mean, whether a book is sound, and the changes a granted call makes.
+#![tactic(auto)]
 
 // A place, or nothing.
 #[derive(Drop)]

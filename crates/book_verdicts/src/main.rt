@@ -1,4 +1,6 @@
 // Builds books as it is told, damages them, and prints whether each is sound. The commands are in hosts/README.md.
+#![tactic(auto)]
+
 ghost use Rattle.std.specs.Prelude.{◌<◌};
 
 use labels::bytes::get_u64;

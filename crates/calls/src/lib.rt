@@ -1,4 +1,5 @@
 // The calls of docs/RULES.md, section 8: each judges, by labels and book, what the rules say of the world that the areas spell, and enacts it.
+#![tactic(auto)]
 
 // What a call answers: granted with its value, or refused by its number.
 #[derive(Drop)]

@@ -1,4 +1,6 @@
 // Two comparisons of lent labels as C functions of their own, so that the stack that one takes can be measured (./bench). The kernel uses neither.
+#![tactic(auto)]
+
 ghost use Rattle.std.specs.Prelude.{◌≡◌};
 ghost use Rattle.compared.specs.Answers.{may_write_lent, floor_flows_lent};
 

@@ -1,1 +1,2 @@
 // Worked examples of the rules: specs/ computes them.
+#![tactic(auto)]

@@ -1,4 +1,6 @@
 // The kernel's C interface: each function thin over one of `calls`, with the whole contract and no requires.
+#![tactic(auto)]
+
 ghost use Rattle.std.specs.Prelude.{◌≡◌, cond, [], eqb, length};
 ghost use Rattle.rules.specs.Kernel as kernel;
 ghost use Rattle.tables.specs.Layout.{size};

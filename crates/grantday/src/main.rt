@@ -1,4 +1,6 @@
 // The day of docs/RULES.md 10.2, run on the kernel: one line a call, with its number, caller, call, answer and value.
+#![tactic(auto)]
+
 ghost use Rattle.std.specs.Prelude.{◌≡◌, length};
 ghost use Rattle.rules.specs.Kernel.{started};
 ghost use Rattle.tables.specs.Layout.{size};

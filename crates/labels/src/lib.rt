@@ -1,4 +1,6 @@
 // Labels: what they are made of. The modules compare and test them where they are held, add a pair, and turn them into bytes.
+#![tactic(auto)]
+
 ghost use Rattle.std.specs.Prelude.{◌≡◌};
 ghost use Rattle.labels.specs.Core.{plain};
 
@@ -49,14 +51,14 @@ impl Label {
 }
 
 // A label where it is held: its default, and where its words begin in the bytes that hold it.
-#[derive(Drop)]
+#[derive(Clone, Copy)]
 pub struct Held {
     pub default: u64,
     pub from: usize,
 }
 
 // What is compared, of labels X, Y and Z.
-#[derive(Drop)]
+#[derive(Clone, Copy)]
 pub enum Rule {
     // X flows to Y
     Flows,

@@ -1,5 +1,7 @@
 // The book's tables (docs/BOOK.md): their numbers, where they start, and one accessor for each width. A contract speaks of the
 // book as a record of tables, `view`, and never of bytes.
+#![tactic(auto)]
+
 ghost use Rattle.std.specs.Prelude.{◌≡◌, ◌+◌, ◌*◌, ◌<◌, ◌≤◌, length, get_or, take, drop, eqb};
 ghost use Rattle.labels.specs.Core.{word_count, words_at};
 ghost use Rattle.tables.specs.Layout.{table_count, base, size, view, tab_of, put_t, run_t, empty, Slot, Run};
