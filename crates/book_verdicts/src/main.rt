@@ -1,7 +1,8 @@
 // Builds books as it is told, damages them, and prints whether each is sound. The commands are in hosts/README.md.
 #![tactic(auto)]
 
-ghost use Rattle.std.specs.Prelude.{◌≤◌, ◌<◌, length, IfOk};
+ghost use Rattle.std.specs.Prelude.{◌≡◌, ◌≤◌, ◌<◌, length, IfOk, OnErr};
+ghost use Rattle.book_verdicts.specs.declared.Told.TheVariants.{Sound, Unsound};
 
 use labels::bytes::get_u64;
 use std::io;
@@ -44,7 +45,8 @@ fn put_number(book: &mut [u8], offset: usize, width: usize, number: u64) {
     }
 }
 
-// Reads until the buffer is full or the input ends; answers how many bytes it put at the buffer's start.
+// Reads until the buffer is full or the input ends; answers how many bytes it put at the buffer's start. The only error is
+// that of a read, and the buffer may then have some of the input.
 fn read_full(input: &mut impl Read, buf: &mut [u8]) -> io::Result<usize>
     ensures { IfOk result (λ n. n ≤ length buf.new) }
 {
@@ -59,8 +61,10 @@ fn read_full(input: &mut impl Read, buf: &mut [u8]) -> io::Result<usize>
     Ok(done)
 }
 
-// Command W: an offset in four bytes, a width in one, a number in eight.
-fn put_told(input: &mut impl Read, book: &mut [u8]) -> io::Result<()> {
+// Command W: an offset in four bytes, a width in one, a number in eight. The only error is that of a read.
+fn put_told(input: &mut impl Read, book: &mut [u8]) -> io::Result<()>
+    ensures { OnErr result (book.new ≡ book.old) }
+{
     let mut told = [0u8; 13];
     read_full(input, &mut told)?;
     let offset = wide(told[0]) + 256 * wide(told[1]) + 65536 * wide(told[2]);
@@ -79,8 +83,12 @@ fn clear(book: &mut [u8]) {
     }
 }
 
-// Does one command.
-fn obey(input: &mut impl Read, book: &mut [u8]) -> io::Result<Told> {
+// Does one command. The only error is that of a read.
+fn obey(input: &mut impl Read, book: &mut [u8]) -> io::Result<Told>
+    ensures err { OnErr result (book.new ≡ book.old) }
+    ensures sound { IfOk result (λ t. t ≡ Sound → book.new ≡ book.old) }
+    ensures unsound { IfOk result (λ t. t ≡ Unsound → book.new ≡ book.old) }
+{
     let mut op = [0u8; 1];
     let got = read_full(input, &mut op)?;
     if got == 0 {
@@ -104,15 +112,18 @@ fn obey(input: &mut impl Read, book: &mut [u8]) -> io::Result<Told> {
     Ok(Told::Quiet)
 }
 
-// Prints the line of a verdict, and answers the next index.
+// Prints the line of a verdict, and answers the next index. The only error is that of a write.
 fn print(rt: &impl Print, index: u64, verdict: &[u8]) -> io::Result<u64> {
     rt.print(index)?;
     rt.write_all(verdict)?;
     Ok(index.wrapping_add(1))
 }
 
-// Does one command and prints what is to be printed; answers the next index, or the last one where no command is left.
-fn turn(rt: &impl Print, input: &mut impl Read, book: &mut [u8], index: u64) -> io::Result<u64> {
+// Does one command and prints what is to be printed; answers the next index, or the last one where no command is left. The
+// only error is that of a read or a write.
+fn turn(rt: &impl Print, input: &mut impl Read, book: &mut [u8], index: u64) -> io::Result<u64>
+    ensures { OnErr result (book.new ≡ book.old) }
+{
     match obey(input, book)? {
         Told::Sound => print(rt, index, b" 1\n"),
         Told::Unsound => print(rt, index, b" 0\n"),

@@ -116,7 +116,8 @@ fn put_lines(out: &mut [u8], first: u64, cases: &[u8], count: usize) -> usize
     at
 }
 
-// Reads until the buffer is full or the input ends; answers how many bytes it put at the buffer's start.
+// Reads until the buffer is full or the input ends; answers how many bytes it put at the buffer's start. The only error is
+// that of a read, and the buffer may then have some of the input.
 fn read_full(input: &mut impl Read, buf: &mut [u8]) -> std::io::Result<usize>
     ensures { IfOk result (λ n. n ≤ length buf.new) }
 {
@@ -131,7 +132,7 @@ fn read_full(input: &mut impl Read, buf: &mut [u8]) -> std::io::Result<usize>
     Ok(done)
 }
 
-// Reads up to 300 cases and writes their lines; answers how many there were.
+// Reads up to 300 cases and writes their lines; answers how many there were. The only error is that of a read or a write.
 fn turn(input: &mut impl Read, output: &mut impl Write, first: u64) -> std::io::Result<u64>
     requires { first < 9223372036854775808 }
     ensures { IfOk result (λ n. n ≤ 300) }
