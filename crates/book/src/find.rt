@@ -15,7 +15,7 @@ use tables::{
 };
 
 // Where an object stands in a container: the two rows and the link between them.
-#[derive(Drop)]
+#[derive(Clone, Copy)]
 pub enum Entry {
     In {
         container: usize,

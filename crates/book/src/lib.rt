@@ -2,7 +2,7 @@
 #![tactic(auto)]
 
 // A place, or nothing.
-#[derive(Drop)]
+#[derive(Clone, Copy)]
 pub enum Found {
     At(usize),
     Nothing,

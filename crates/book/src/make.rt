@@ -15,7 +15,7 @@ use tables::{
 };
 
 // What a new row holds but for its texts; what its kind does not have is 0.
-#[derive(Drop)]
+#[derive(Clone, Copy)]
 pub struct NewRow {
     pub kind: u8,
     pub mask: u8,

@@ -4,7 +4,7 @@ ghost use Rattle.rules.specs.Kernel.{root_quota};
 ghost use Rattle.calls.specs.Amount.{amount_of, over_limit, quota_for, Reckoned};
 
 // So many units in, so many out, or over the limit.
-#[derive(Drop)]
+#[derive(Clone, Copy)]
 pub enum Amount {
     In(u64),
     Out(u64),

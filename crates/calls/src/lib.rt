@@ -2,14 +2,14 @@
 #![tactic(auto)]
 
 // What a call answers: granted with its value, or refused by its number.
-#[derive(Drop)]
+#[derive(Clone, Copy)]
 pub enum Answer {
     Granted(u64),
     Refused(u64),
 }
 
 // Why a call is refused (RULES 6), by the names of the C header.
-#[derive(Drop)]
+#[derive(Clone, Copy)]
 pub enum Refusal {
     BadArea,
     NumbersEnded,
@@ -27,21 +27,21 @@ pub enum Refusal {
 }
 
 // What every call asks first: the row of the calling thread, or a refusal by 1, 2 or 3.
-#[derive(Drop)]
+#[derive(Clone, Copy)]
 pub enum Begun {
     By(usize),
     Not(Refusal),
 }
 
 // What testing label conditions comes to.
-#[derive(Drop)]
+#[derive(Clone, Copy)]
 pub enum Tested {
     Pass,
     Fail(Refusal),
 }
 
 // What judging a call comes to: the rows or links that it is to be done on, or a refusal.
-#[derive(Drop)]
+#[derive(Clone, Copy)]
 pub enum Judged {
     Go(usize, usize),
     No(Refusal),

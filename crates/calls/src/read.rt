@@ -11,7 +11,7 @@ use book::alter::move_on;
 use book::find::Entry;
 
 // The place and the count of the part that is read, or the refusal.
-#[derive(Drop)]
+#[derive(Clone, Copy)]
 pub enum Located {
     At(usize, usize),
     Off(Answer),

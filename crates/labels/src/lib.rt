@@ -14,7 +14,7 @@ pub mod bytes; // bytes.rt: numbers and labels as bytes
 // How many words a label has.
 pub const WORDS: usize = 8;
 
-#[derive(Drop)]
+#[derive(Clone, Copy)]
 pub struct Label {
     pub default: u64,
     pub words: [u64; WORDS],
@@ -73,7 +73,7 @@ pub enum Rule {
 }
 
 // A label with one pair more, or as it was where that does not fit. (An enum cannot hold an array.)
-#[derive(Drop)]
+#[derive(Clone, Copy)]
 pub struct Paired {
     pub fits: bool,
     pub label: Label,

@@ -11,7 +11,7 @@ use Rattle.rules.specs.Kernel.{gate_code, World, Obj, Condition, Verdict, refuse
 use Rattle.rules.specs.Kernel.{enter_gate, alter, relabel, good_label, good_arguments, text_size}
 use Rattle.tables.specs.Layout.{view}
 use Rattle.book.specs.declared.find.Entry.TheVariants as place
-use Rattle.book.specs.Book.{next_of, code_of, label_of, clearance_of, world_of}
+use Rattle.book.specs.Book.{next_of, code_of, clearance_of, world_of}
 use Rattle.book.specs.Laws.Tie.{object_clearance, object_gate, object_entry, object_closure}
 use Rattle.calls.specs.declared.Refusal.{Refusal}
 use Rattle.calls.specs.declared.Tested.{Tested}

@@ -1,0 +1,16 @@
+use mathlib.Core.Path.{sym, ◌∙◌}
+use Rattle.calls.specs.Laws.Creating.{first_bad, first_good}
+use Rattle.calls.proofs.create_thread.good_arguments.Goals as goal
+
+pub returns-then-not-good_label : goal.returns-then-not-good_label
+returns-then-not-good_label c = first_bad _ _ (sym c.good_label.ensures ∙ c.if-not-good_label.true)
+
+pub returns-then-not-good_label-2 : goal.returns-then-not-good_label-2
+returns-then-not-good_label-2 c =
+    first_good _ _ _ (sym c.good_label.ensures ∙ c.if-not-good_label.false)
+    (first_bad _ _ (sym c.good_label-2.ensures ∙ c.if-not-good_label-2.true))
+
+pub returns : goal.returns
+returns c =
+    first_good _ _ _ (sym c.good_label.ensures ∙ c.if-not-good_label.false)
+    (first_good _ _ _ (sym c.good_label-2.ensures ∙ c.if-not-good_label-2.false) c.good_text.ensures)

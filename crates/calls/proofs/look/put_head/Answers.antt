@@ -1,0 +1,27 @@
+use native.Mathlib.Omega.{arith}
+use lib.ListN.{length-set}
+use Rattle.calls.proofs.look.put_head.Goals as goal
+
+pub bounds-out-1 : goal.bounds-out-1
+bounds-out-1 c = simp length-set (omega arith)
+
+pub bounds-out-2 : goal.bounds-out-2
+bounds-out-2 c = simp length-set (omega arith)
+
+pub bounds-out-3 : goal.bounds-out-3
+bounds-out-3 c = simp length-set (omega arith)
+
+pub bounds-out-4 : goal.bounds-out-4
+bounds-out-4 c = simp length-set (omega arith)
+
+pub bounds-out-5 : goal.bounds-out-5
+bounds-out-5 c = simp length-set (omega arith)
+
+pub bounds-out-6 : goal.bounds-out-6
+bounds-out-6 c = simp length-set (omega arith)
+
+pub bounds-out-7 : goal.bounds-out-7
+bounds-out-7 c = simp length-set (omega arith)
+
+pub shape_of-out : goal.shape_of-out
+shape_of-out c = simp length-set
