@@ -2,7 +2,7 @@
  * Flytewood: a small label kernel, called from C.
  *
  * Threads, gates, segments and containers, each with a label and a storage quota, in two byte areas that the host lends
- * to every call. Link with libflytewood.a (`rt staticlib flytewood`), which is for x86-64.
+ * to every call. Link with libflytewood.a (`hosts/archive` builds it), which is for x86-64.
  *
  * What is lent to every call, first and in this order
  *   book, book_len   the book: exactly fw_book_len() bytes (docs/BOOK.md says what they hold)

@@ -1,4 +1,4 @@
-//! Links the kernel's archive, which `rt staticlib flytewood` writes; FLYTEWOOD_ARCHIVE_DIR names another folder for it.
+//! Links the kernel's archive, which `hosts/archive` builds; FLYTEWOOD_ARCHIVE_DIR names another folder for it.
 
 use std::env;
 use std::path::PathBuf;

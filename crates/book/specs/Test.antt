@@ -7,7 +7,8 @@ use Rattle.quotas.specs.Sum.{Σ, when}
 use Rattle.quotas.specs.Any.{any}
 use Rattle.rules.specs.Kernel.{segment_code, container_code, last_number, root_quota, max_mask, max_length, units}
 use Rattle.tables.specs.Layout.{View, view, size, row_count, link_count, block_count}
-use Rattle.book.specs.Book.{next_of, root_of, id_of, code_of, mask_of, fixed_of, quota_of, len_of, label_of, clearance_of, mark_of, from_of, to_of, owner_of, index_of, blocks_of, has_id, is_thread_or_gate}
+use Rattle.book.specs.Book.{next_of, root_of, id_of, code_of, mask_of, fixed_of, quota_of, len_of, label_of, clearance_of}
+use Rattle.book.specs.Book.{mark_of, from_of, to_of, owner_of, index_of, blocks_of, has_id, is_thread_or_gate}
 use Rattle.book.specs.Sound.{links_to, charged_to}
 use Rattle.book.specs.Enact.{area_size}
 

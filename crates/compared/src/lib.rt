@@ -12,6 +12,7 @@ use labels::in_place::from_bytes;
 const LABEL_SIZE: usize = 1 + WORDS * 8;
 
 // Whether T may write O.
+#[tactic(auto, unfolding(crate::specs::Answers::may_write_lent))]
 #[unsafe(no_mangle)]
 pub extern "C" fn fwc_may_write(t: &[u8], o: &[u8]) -> u64
     ensures { result ≡ may_write_lent t.now o.now }
@@ -29,6 +30,7 @@ pub extern "C" fn fwc_may_write(t: &[u8], o: &[u8]) -> u64
 }
 
 // Whether floor(X, Y) flows to Z.
+#[tactic(auto, unfolding(crate::specs::Answers::floor_flows_lent))]
 #[unsafe(no_mangle)]
 pub extern "C" fn fwc_floor_flows(x: &[u8], y: &[u8], z: &[u8]) -> u64
     ensures { result ≡ floor_flows_lent x.now y.now z.now }

@@ -1,4 +1,5 @@
-// The kernel's C interface: each function thin over one of `calls`, with the whole contract and no requires.
+// The kernel's functions, under the names that C has for them (`flytewood_c` exports each): each thin over one of `calls`, with the whole contract and
+// no requires.
 #![tactic(auto)]
 
 ghost use Rattle.std.specs.Prelude.{◌≡◌, cond, [], eqb, length};
@@ -27,37 +28,28 @@ use calls::write::write;
 use tables::BOOK_LEN;
 
 // The book's one length.
-#[unsafe(no_mangle)]
-pub extern "C" fn fw_book_len() -> u64
+pub fn fw_book_len() -> u64
     ensures { result ≡ size }
 {
     BOOK_LEN as u64
 }
 
 // Start: the root container `first` and in it the thread `first` + 1.
-#[unsafe(no_mangle)]
-pub extern "C" fn fw_start(b: &mut [u8], area: &mut [u8], first: u64) -> u64
+pub fn fw_start(b: &mut [u8], area: &mut [u8], first: u64) -> u64
     ensures { Started b.old area.old first result b.new area.new }
 {
     start(b, area, first)
 }
 
 // Call 1: a new category.
-#[unsafe(no_mangle)]
-pub extern "C" fn fw_create_category(
-    b: &mut [u8],
-    area: &mut [u8],
-    caller: u64,
-    value: &mut u64,
-) -> u64
+pub fn fw_create_category(b: &mut [u8], area: &mut [u8], caller: u64, value: &mut u64) -> u64
     ensures { Called b.old area.old caller kernel.create_category [] result value.new b.new area.new [] }
 {
     spread(create_category(b, area, caller), value)
 }
 
 // Call 2: the caller's label.
-#[unsafe(no_mangle)]
-pub extern "C" fn fw_set_label(
+pub fn fw_set_label(
     b: &mut [u8],
     area: &mut [u8],
     caller: u64,
@@ -70,8 +62,7 @@ pub extern "C" fn fw_set_label(
 }
 
 // Call 3: the caller's clearance.
-#[unsafe(no_mangle)]
-pub extern "C" fn fw_set_clearance(
+pub fn fw_set_clearance(
     b: &mut [u8],
     area: &mut [u8],
     caller: u64,
@@ -84,8 +75,7 @@ pub extern "C" fn fw_set_clearance(
 }
 
 // Call 4: a new container.
-#[unsafe(no_mangle)]
-pub extern "C" fn fw_create_container(
+pub fn fw_create_container(
     b: &mut [u8],
     area: &mut [u8],
     caller: u64,
@@ -107,8 +97,7 @@ pub extern "C" fn fw_create_container(
 }
 
 // Call 5: a new segment, of length 0.
-#[unsafe(no_mangle)]
-pub extern "C" fn fw_create_segment(
+pub fn fw_create_segment(
     b: &mut [u8],
     area: &mut [u8],
     caller: u64,
@@ -129,8 +118,7 @@ pub extern "C" fn fw_create_segment(
 }
 
 // Call 6: a new gate.
-#[unsafe(no_mangle)]
-pub extern "C" fn fw_create_gate(
+pub fn fw_create_gate(
     b: &mut [u8],
     area: &mut [u8],
     caller: u64,
@@ -163,8 +151,7 @@ pub extern "C" fn fw_create_gate(
 }
 
 // Call 7: a new thread.
-#[unsafe(no_mangle)]
-pub extern "C" fn fw_create_thread(
+pub fn fw_create_thread(
     b: &mut [u8],
     area: &mut [u8],
     caller: u64,
@@ -185,8 +172,7 @@ pub extern "C" fn fw_create_thread(
 }
 
 // Call 8: a link cut, with all that hangs on it.
-#[unsafe(no_mangle)]
-pub extern "C" fn fw_unreference(
+pub fn fw_unreference(
     b: &mut [u8],
     area: &mut [u8],
     caller: u64,
@@ -200,8 +186,7 @@ pub extern "C" fn fw_unreference(
 }
 
 // Call 9: the entry (d1, o) linked into d.
-#[unsafe(no_mangle)]
-pub extern "C" fn fw_link_segment(
+pub fn fw_link_segment(
     b: &mut [u8],
     area: &mut [u8],
     caller: u64,
@@ -216,8 +201,7 @@ pub extern "C" fn fw_link_segment(
 }
 
 // Call 10: a segment's quota fixed.
-#[unsafe(no_mangle)]
-pub extern "C" fn fw_fix_quota(
+pub fn fw_fix_quota(
     b: &mut [u8],
     area: &mut [u8],
     caller: u64,
@@ -231,8 +215,7 @@ pub extern "C" fn fw_fix_quota(
 }
 
 // Call 11: n units moved into (d, o), or back.
-#[unsafe(no_mangle)]
-pub extern "C" fn fw_move_quota(
+pub fn fw_move_quota(
     b: &mut [u8],
     area: &mut [u8],
     caller: u64,
@@ -247,8 +230,7 @@ pub extern "C" fn fw_move_quota(
 }
 
 // Call 13: bytes written.
-#[unsafe(no_mangle)]
-pub extern "C" fn fw_write(
+pub fn fw_write(
     b: &mut [u8],
     area: &mut [u8],
     caller: u64,
@@ -266,8 +248,7 @@ pub extern "C" fn fw_write(
 }
 
 // Call 14: a segment resized.
-#[unsafe(no_mangle)]
-pub extern "C" fn fw_resize(
+pub fn fw_resize(
     b: &mut [u8],
     area: &mut [u8],
     caller: u64,
@@ -282,8 +263,7 @@ pub extern "C" fn fw_resize(
 }
 
 // Call 15: a gate entered; its closure bytes go into `out`.
-#[unsafe(no_mangle)]
-pub extern "C" fn fw_enter_gate(
+pub fn fw_enter_gate(
     b: &mut [u8],
     area: &mut [u8],
     caller: u64,
@@ -306,8 +286,7 @@ pub extern "C" fn fw_enter_gate(
 }
 
 // Call 16: what an entry is, into `out`.
-#[unsafe(no_mangle)]
-pub extern "C" fn fw_look(
+pub fn fw_look(
     b: &mut [u8],
     area: &mut [u8],
     caller: u64,
@@ -334,8 +313,7 @@ fn place_given(place: usize, count: usize) -> u64
 }
 
 // Call 12: the part's place in the data area and its count; both are 0 for an empty part and on a refusal.
-#[unsafe(no_mangle)]
-pub extern "C" fn fw_read(
+pub fn fw_read(
     b: &mut [u8],
     area: &mut [u8],
     caller: u64,

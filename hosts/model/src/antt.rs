@@ -9,21 +9,20 @@ use crate::model::{Call, Outcome};
 
 /// The `use` lines at the top of each file: everything that a day opens.
 const USES: &str = "\
-use mathlib.Core.Path.{_≡_, refl}
-use mathlib.Core.List.{List, [], _∷_}
-use Rattle·labels.specs.Le.{leAt, leBytes}
-use Rattle·labels.specs.Core.{levelAt, everyNamed, holdsB, compareB, zerosB, wordsB, formedB, insertW, roomB, wordsAt, labelOf, wordsBytes, labelBytes}
-use Rattle·quotas.specs.Sum.{Σ, when}
-use Rattle·quotas.specs.Any.{any, both, either}
-use Rattle·rules.specs.Kernel.{createCategory, setLabel, setClearance, createContainer, createSegment, createGate, createThread, unreference, linkSegment, fixQuota, moveQuota, read, write, resize, enterGate, look, start, call, after, tests, judge, unless, must, whyNot, mustHold, opens, entry, make, move, access, forbids, fits, spareOf, useOf, charged, units, answerOf, valueOf, outputOf, leaves, apply, put, linkIn, under, below, stays, kept, edit, goodArguments, goodLabel, goodText, holds, allHold, flow, reading, writing, floorFlow, flowJoin, flowJoinHigh, containerOf, segmentOf, gateOf, threadOf, clearedAt, lookBytes, overwrite, resized, orDefault, kindCode, isLive, isThread, isGate, isSegment, isContainer, hasClearance, blank, nothing}
-use Rattle·examples·specs.specs.Play.{Turn, Said, Day, turn, said, day, run, played, written, wordsFor, lent, zeros32, into, back}
+use Rattle.std.specs.Prelude.{◌≡◌, refl, List, [], ◌∷◌}
+use Rattle.labels.specs.Le.{le_at, le_bytes}
+use Rattle.labels.specs.Core.{level_at, every_named, holds_b, compare_b, zeros_b, words_b, formed_b, insert_w, room_b, words_at, label_of, words_bytes, label_bytes}
+use Rattle.quotas.specs.Sum.{Σ, when}
+use Rattle.quotas.specs.Any.{any, both, either}
+use Rattle.rules.specs.Kernel.{create_category, set_label, set_clearance, create_container, create_segment, create_gate, create_thread, unreference, link_segment, fix_quota, move_quota, read, write, resize, enter_gate, look, start, call, after, tests, judge, unless, must, why_not, must_hold, opens, entry, make, move, access, forbids, fits, spare_of, use_of, charged, units, answer_of, value_of, output_of, leaves, apply, put, link_in, under, below, stays, kept, edit, good_arguments, good_label, good_text, holds, all_hold, flow, reading, writing, floor_flow, flow_join, flow_join_high, container_of, segment_of, gate_of, thread_of, cleared_at, look_bytes, overwrite, resized, or_default, kind_code, is_live, is_thread, is_gate, is_segment, is_container, has_clearance, blank, nothing}
+use Rattle.examples.specs.Play.{Turn, Said, Day, turn, said, day, run, played, written, words_for, lent, zeros32, into, back}
 ";
 /// What is opened so that a day computes.
 const UNFOLDED: &str = "\
-run played written wordsFor lent zeros32 \
-start call after tests judge unless must whyNot mustHold opens entry make move access forbids fits spareOf useOf charged units answerOf valueOf outputOf leaves apply put linkIn under below stays kept edit goodArguments goodLabel goodText holds allHold flow reading writing floorFlow flowJoin flowJoinHigh \
-containerOf segmentOf gateOf threadOf clearedAt lookBytes overwrite resized orDefault kindCode isLive isThread isGate isSegment isContainer hasClearance blank nothing \
-Σ when any both either leAt leBytes levelAt everyNamed holdsB compareB zerosB wordsB formedB insertW roomB wordsAt labelOf wordsBytes labelBytes";
+run played written words_for lent zeros32 \
+start call after tests judge unless must why_not must_hold opens entry make move access forbids fits spare_of use_of charged units answer_of value_of output_of leaves apply put link_in under below stays kept edit good_arguments good_label good_text holds all_hold flow reading writing floor_flow flow_join flow_join_high \
+container_of segment_of gate_of thread_of cleared_at look_bytes overwrite resized or_default kind_code is_live is_thread is_gate is_segment is_container has_clearance blank nothing \
+Σ when any both either le_at le_bytes level_at every_named holds_b compare_b zeros_b words_b formed_b insert_w room_b words_at label_of words_bytes label_bytes";
 
 /// A file of histories, each with its name: the days, and the one statement that each call says what is written.
 pub fn file(remake: &str, histories: &[(String, History)]) -> String {
@@ -45,7 +44,7 @@ fn one_history(name: &str, history: &History) -> String {
     let mut text = format!("-- {}\n", history.title);
     text.push_str(&list(name, "Turn", &turns));
     text.push('\n');
-    text.push_str(&list(&format!("{}-said", name), "Said", &said));
+    text.push_str(&list(&format!("{}_said", name), "Said", &said));
     text
 }
 
@@ -53,12 +52,12 @@ fn one_history(name: &str, history: &History) -> String {
 fn statement(histories: &[(String, History)]) -> String {
     let days: Vec<String> = histories
         .iter()
-        .map(|(name, history)| format!("day {0} {1} {1}-said", history.first, name))
+        .map(|(name, history)| format!("day {0} {1} {1}_said", history.first, name))
         .collect();
-    let names: Vec<String> = histories.iter().map(|(name, _)| format!("{0} {0}-said", name)).collect();
+    let names: Vec<String> = histories.iter().map(|(name, _)| format!("{0} {0}_said", name)).collect();
     let mut text = format!("pub {}", list("days", "Day", &days));
-    text.push_str("\npub model-agrees : played days ≡ written days\n");
-    text.push_str(&format!("unfolding days {} {}\nmodel-agrees = refl\n", names.join(" "), UNFOLDED));
+    text.push_str("\npub model_agrees : played days ≡ written days\n");
+    text.push_str(&format!("unfolding days {} {}\nmodel_agrees = refl\n", names.join(" "), UNFOLDED));
     text
 }
 
@@ -88,29 +87,29 @@ fn said(outcome: &Outcome) -> String {
 /// The call's name and its arguments, in their order.
 fn named(call: &Call) -> (&'static str, Vec<String>) {
     match call {
-        Call::CreateCategory => ("createCategory", Vec::new()),
-        Call::SetLabel { label } => ("setLabel", vec![lent(label)]),
-        Call::SetClearance { clearance } => ("setClearance", vec![lent(clearance)]),
+        Call::CreateCategory => ("create_category", Vec::new()),
+        Call::SetLabel { label } => ("set_label", vec![lent(label)]),
+        Call::SetClearance { clearance } => ("set_clearance", vec![lent(clearance)]),
         Call::CreateContainer { d, label, description, mask, quota } => {
             let labels = vec![lent(label), bytes(description)];
-            ("createContainer", [numbers(&[*d]), labels, numbers(&[*mask, *quota])].concat())
+            ("create_container", [numbers(&[*d]), labels, numbers(&[*mask, *quota])].concat())
         }
         Call::CreateSegment { d, label, description, quota } => {
             let labels = vec![lent(label), bytes(description)];
-            ("createSegment", [numbers(&[*d]), labels, numbers(&[*quota])].concat())
+            ("create_segment", [numbers(&[*d]), labels, numbers(&[*quota])].concat())
         }
         Call::CreateGate { d, label, clearance, entry, closure, description } => {
             let labels = vec![lent(label), lent(clearance)];
             let rest = vec![entry.to_string(), bytes(closure), bytes(description)];
-            ("createGate", [numbers(&[*d]), labels, rest].concat())
+            ("create_gate", [numbers(&[*d]), labels, rest].concat())
         }
         Call::CreateThread { d, label, clearance, description } => {
-            ("createThread", vec![d.to_string(), lent(label), lent(clearance), bytes(description)])
+            ("create_thread", vec![d.to_string(), lent(label), lent(clearance), bytes(description)])
         }
         Call::Unreference { d, o } => ("unreference", numbers(&[*d, *o])),
-        Call::LinkSegment { d1, o, d } => ("linkSegment", numbers(&[*d1, *o, *d])),
-        Call::FixQuota { d, o } => ("fixQuota", numbers(&[*d, *o])),
-        Call::MoveQuota { d, o, n } => ("moveQuota", [numbers(&[*d, *o]), vec![units(*n)]].concat()),
+        Call::LinkSegment { d1, o, d } => ("link_segment", numbers(&[*d1, *o, *d])),
+        Call::FixQuota { d, o } => ("fix_quota", numbers(&[*d, *o])),
+        Call::MoveQuota { d, o, n } => ("move_quota", [numbers(&[*d, *o]), vec![units(*n)]].concat()),
         Call::Read { d, s, k, from, count } => ("read", numbers(&[*d, *s, *k, *from, *count])),
         Call::Write { d, s, k, from, count, bytes: lent } => {
             ("write", [numbers(&[*d, *s, *k, *from, *count]), vec![bytes(lent)]].concat())
@@ -118,7 +117,7 @@ fn named(call: &Call) -> (&'static str, Vec<String>) {
         Call::Resize { d, s, length } => ("resize", numbers(&[*d, *s, *length])),
         Call::EnterGate { d, g, label_r, clearance_r, label_v, output_len } => {
             let labels = vec![lent(label_r), lent(clearance_r), lent(label_v)];
-            ("enterGate", [numbers(&[*d, *g]), labels, numbers(&[*output_len])].concat())
+            ("enter_gate", [numbers(&[*d, *g]), labels, numbers(&[*output_len])].concat())
         }
         Call::Look { d, o, output_len } => ("look", numbers(&[*d, *o, *output_len])),
     }
@@ -180,23 +179,23 @@ mod tests {
 -- two calls
 h01 : List Turn
 h01 =
-    turn 6 createCategory
-    ∷ turn 6 (createContainer 5 (lent 2 ((7, 4) ∷ [])) zeros32 0 20)
+    turn 6 create_category
+    ∷ turn 6 (create_container 5 (lent 2 ((7, 4) ∷ [])) zeros32 0 20)
     ∷ []
 
-h01-said : List Said
-h01-said =
+h01_said : List Said
+h01_said =
     said 0 7 []
     ∷ said 0 8 []
     ∷ []
 
 pub days : List Day
 days =
-    day 5 h01 h01-said
+    day 5 h01 h01_said
     ∷ []
 
-pub model-agrees : played days ≡ written days
-unfolding days h01 h01-said run";
+pub model_agrees : played days ≡ written days
+unfolding days h01 h01_said run";
 
     #[test]
     fn a_history_has_its_shape() {
@@ -208,7 +207,7 @@ unfolding days h01 h01-said run";
             "-- Generated by hosts/model/src/bin/short_histories.rs; remake: again. Do not edit.\nuse "
         ));
         assert!(text.contains(EXPECTED));
-        assert!(text.ends_with("\nmodel-agrees = refl\n"));
+        assert!(text.ends_with("\nmodel_agrees = refl\n"));
     }
 
     #[test]

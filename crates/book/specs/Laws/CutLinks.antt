@@ -126,7 +126,8 @@ module _ (v : View) (area : List ℕ) (shape : Shape v) (s : Sound v) (l : ℕ) 
         record {
           low = a.low;
           used = λ z. a.used
-              (sym (left_true (stays (world_of v area) (id_of v (from_of v l)) (id_of v (to_of v l)) (id_of v (from_of v k)) (id_of v (to_of v k))) (mark_of v k) (mark_of u k) (mark_left k a.low) t) ∙ z);
+              (sym (left_true (stays (world_of v area) (id_of v (from_of v l)) (id_of v (to_of v l)) (id_of v (from_of v k)) (id_of v (to_of v k))) (mark_of v k) (mark_of u k)
+              (mark_left k a.low) t) ∙ z);
         }
 
     -- ---- rows

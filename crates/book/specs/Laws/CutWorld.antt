@@ -250,7 +250,8 @@ module _ (v : View) (area : List ℕ) (shape : Shape v) (s : Sound v) (d o : ℕ
         let w : owner_of v ((block_size * m + x) / block_size) ≡ r + 1 = ap (owner_of v) q ∙ e in
         let z : owner_of v ((block_size * m + x) / block_size) - 1 ≡ r = omega arith in
         g.byte (block_size * m + x) (omega arith)
-        ∙ picked (eqb (owner_of v ((block_size * m + x) / block_size)) 0) (kept (world_of v area) d o (id_of v (owner_of v ((block_size * m + x) / block_size) - 1))) (get_or area (block_size * m + x) 0)
+        ∙ picked (eqb (owner_of v ((block_size * m + x) / block_size)) 0) (kept (world_of v area) d o (id_of v (owner_of v ((block_size * m + x) / block_size) - 1)))
+        (get_or area (block_size * m + x) 0)
         (ne_eqb (owner_of v ((block_size * m + x) / block_size)) 0 (λ y. omega arith))
         (ap (λ (i : ℕ). kept (world_of v area) d o (id_of v i)) z ∙ k)
 

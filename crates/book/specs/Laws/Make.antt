@@ -16,7 +16,8 @@ use Rattle.rules.specs.Laws.Kinds.{kind_most}
 use Rattle.rules.specs.Laws.Worlds.{world_ext}
 use Rattle.tables.specs.Layout.{View, row_count, link_count, next_t, link_from_t, link_to_t}
 use Rattle.book.specs.declared.Found.TheVariants.{At}
-use Rattle.book.specs.Book.{next_of, root_of, id_of, code_of, fixed_of, len_of, mark_of, from_of, to_of, owner_of, index_of, live_row, blocks_of, place_of, block_at, bytes_of, object_at, has_id, row_of, world_of}
+use Rattle.book.specs.Book.{next_of, root_of, id_of, code_of, fixed_of, len_of, mark_of, from_of, to_of, owner_of, index_of}
+use Rattle.book.specs.Book.{live_row, blocks_of, place_of, block_at, bytes_of, object_at, has_id, row_of, world_of}
 use Rattle.book.specs.Sound.{Live, On, Used, Owned, Sound, times_held}
 use Rattle.book.specs.Placed.{Placed}
 use Rattle.book.specs.Shape.{Shape}

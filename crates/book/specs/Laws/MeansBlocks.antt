@@ -194,8 +194,11 @@ module _ (v : View) where
   unfolding block_b twin_b
   block_of b u h =
       let x = unless (eqb (owner_of v b) 0) (owned_b v b && every b (λ c. not (twin_b v b c))) h (ne_eqb (owner_of v b) 0 u.used) in
-      let one = owned_is b (and_l (owned_b v b) _ x) in
-      (one, λ c l o i. not_of (twin_b v b c) (every_of b (λ c. not (twin_b v b c)) (and_r (owned_b v b) _ x) c l) (rw (eq-eqb (owner_of v b) (owner_of v c) o) (eq-eqb (index_of v b) (index_of v c) i)))
+      let one = owned_is b (and_l (owned_b v b) _ x) in (
+        one,
+        λ c l o i. not_of (twin_b v b c) (every_of b (λ c. not (twin_b v b c)) (and_r (owned_b v b) _ x) c l)
+            (rw (eq-eqb (owner_of v b) (owner_of v c) o) (eq-eqb (index_of v b) (index_of v c) i)),
+      )
 
   block_by : (b : ℕ) → b < block_count → (Used v b → Owned v b × Alone v b) → block_b v b ≡ true
   unfolding block_b owned_b twin_b

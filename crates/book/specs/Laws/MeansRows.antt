@@ -159,7 +159,8 @@ fits_by code q n u s = go (eqb code container_code) refl
     go false e = only_by (eqb code segment_code) (leb (units n) q) (λ t. le-leb (units n) q (s.segment (eqb-true code segment_code t)))
 
 -- How a row is linked: its test holds exactly if, where it is live, it is tied and fits.
-pub tie_of : (v : View) (r n u : ℕ) → Live v r → tie_b v r n u ≡ true → Tied (eqb (id_of v r) (root_of v)) (code_of v r) (fixed_of v r) (quota_of v r) n × Fits (code_of v r) (quota_of v r) (len_of v r) u
+pub tie_of : (v : View) (r n u : ℕ) → Live v r → tie_b v r n u ≡ true
+    → Tied (eqb (id_of v r) (root_of v)) (code_of v r) (fixed_of v r) (quota_of v r) n × Fits (code_of v r) (quota_of v r) (len_of v r) u
 unfolding tie_b
 tie_of v r n u live h =
     let T = tied_n (eqb (id_of v r) (root_of v)) (code_of v r) (fixed_of v r) (quota_of v r) n in

@@ -75,7 +75,8 @@ module _ (v : View) where
   -- What the pass refuses is not sound.
   pub tally_fails : tally_b v ≡ false → links_b v ≡ false
   unfolding tally_b links_b
-  tally_fails h = go (every link_count (link_b v)) (every link_count (once_b v (links_to v))) (every row_count (λ r. tie_b v r (links_to v r) (charged_to v r))) (any row_count (has_id v (root_of v))) h
+  tally_fails h = go (every link_count (link_b v)) (every link_count (once_b v (links_to v))) (every row_count (λ r. tie_b v r (links_to v r) (charged_to v r)))
+      (any row_count (has_id v (root_of v))) h
     where
       go : (a b t r : Bool) → (a && b) ≡ false → (a && (t && (b && r))) ≡ false
       go true b t r e = and_fails t (b && r) (rw e)

@@ -106,7 +106,8 @@ module _ (v : View) (shape : Shape v) (p : Placed v) (r : ℕ) (a : Live v r) (c
   holding = held v r p a c
 
   -- a byte of a block of row r that stays
-  stays : (j : ℕ) → j < area_size → owner_of (lengthened r n v) (j / block_size) ≡ r + 1 → owner_of v (j / block_size) ≡ r + 1 → index_of (lengthened r n v) (j / block_size) ≡ index_of v (j / block_size)
+  stays : (j : ℕ) → j < area_size → owner_of (lengthened r n v) (j / block_size) ≡ r + 1 → owner_of v (j / block_size) ≡ r + 1
+      → index_of (lengthened r n v) (j / block_size) ≡ index_of v (j / block_size)
       → index_of v (j / block_size) < blocks_of n
       → get_or (between_cleared r (len_of v r) n v area) j 0 ≡ byte_after v (lengthened r n v) r (resized n (bytes_of v area r)) area j
   stays j l o q e i =
@@ -174,7 +175,8 @@ module _ (v : View) (shape : Shape v) (p : Placed v) (r : ℕ) (a : Live v r) (c
       (λ t. let i = leb-true (blocks_of n) (index_of v (j / block_size)) (both_parts (eqb (owner_of v (j / block_size)) (r + 1)) (leb (blocks_of n) (index_of v (j / block_size))) t).1 in
       omega (arith, k.low, k.high))
       (λ t. omega (arith, k.free, drop_keep r (blocks_of n) v (j / block_size) x t)))))
-      (added_each r (blocks_of n - blocks_of (len_of v r)) (blocks_of (len_of v r)) (blocks_dropped r (blocks_of n) v) (wiped_to block_count r (blocks_of n) v (between_cleared r (len_of v r) n v area))
+      (added_each r (blocks_of n - blocks_of (len_of v r)) (blocks_of (len_of v r)) (blocks_dropped r (blocks_of n) v)
+      (wiped_to block_count r (blocks_of n) v (between_cleared r (len_of v r) n v area))
       (drop_long r (blocks_of n) v) (unfold blocks_dropped in (shape.long index_t)) (wiped_length r (blocks_of n) v (between_cleared r (len_of v r) n v area) block_count) (j / block_size) x)
 
   -- The steps of a resize come to what the change asks of the area.

@@ -182,7 +182,8 @@ module _ (v : View) (n : ℕ) (a : List ℕ) (s : Seen v n a) where
           omega (arith, sum_term n f c l, one, s.held k low, z))))
 
   -- A number seen before: a block below is the same one.
-  pub block_twice : (k : ℕ) → k ≡ number_of v n → k < block_count → n < block_count → (owner_of v n ≡ 0 → ⊥) → owned_b v n ≡ true → every n (block_b v) ≡ true → (get_or a k 0 ≡ 0 → ⊥) → block_b v n ≡ false
+  pub block_twice : (k : ℕ) → k ≡ number_of v n → k < block_count → n < block_count → (owner_of v n ≡ 0 → ⊥) → owned_b v n ≡ true → every n (block_b v) ≡ true
+      → (get_or a k 0 ≡ 0 → ⊥) → block_b v n ≡ false
   unfolding seen_below block_b twin_b
   block_twice k e low ln ne o h z =
       let f : ℕ → ℕ = λ b. when (not (eqb (owner_of v b) 0)) (when (eqb (number_of v b) k) 1) in

@@ -22,7 +22,8 @@ use Rattle.book.specs.Laws.MeansLinks.{link_of}
 -- What stands at r when w was added at i.
 pub added : (a : List ℕ) (i w r : ℕ) → i < length a → get_or (set a i (get_or a i 0 + w)) r 0 ≡ get_or a r 0 + when (eqb i r) w
 added a i w r h = elim (ℕ_discrete i r) [
-  | yes e ↦ subst (λ (x : ℕ). get_or (set a i (get_or a i 0 + w)) x 0 ≡ get_or a x 0 + when (eqb i x) w) e (omega (arith, get_or-set_same a i (get_or a i 0 + w) 0 h, when_true (eqb i i) w (eq-eqb i i refl)))
+  | yes e ↦ subst (λ (x : ℕ). get_or (set a i (get_or a i 0 + w)) x 0 ≡ get_or a x 0 + when (eqb i x) w) e
+      (omega (arith, get_or-set_same a i (get_or a i 0 + w) 0 h, when_true (eqb i i) w (eq-eqb i i refl)))
   | no ne ↦ omega (arith, get_or-set_other a i r (get_or a i 0 + w) 0 (λ q. ne (sym q)), when_false (eqb i r) w (ne_eqb i r ne))
 ]
 

@@ -8,7 +8,8 @@ use Rattle.std.proofs.Math.Path.{refl, sym, ap, ap₂}
 use borrow.Author.Tests.{eqb-true, eqb-false, eq-eqb, ne_eqb, not-true, ltb-true, ltb-false, le-leb}
 use Rattle.quotas.specs.Any.{no_both, any, any_found, any_of, both, both_of, both_parts, any_cong}
 use Rattle.quotas.specs.Sum.{Σ, when, sum_cong, sum_swap, sum_only, sum_none, sum_term, sum_pos, when_true, when_false, when_cong, when_none, when_le, when_pos}
-use Rattle.rules.specs.Kernel.{thread_code, gate_code, segment_code, container_code, max_code, is_live, is_thread, is_gate, is_segment, is_container, has_clearance, Obj, nothing, charged, use_of, spare_of, units}
+use Rattle.rules.specs.Kernel.{thread_code, gate_code, segment_code, container_code, max_code, is_live, is_thread, is_gate}
+use Rattle.rules.specs.Kernel.{is_segment, is_container, has_clearance, Obj, nothing, charged, use_of, spare_of, units}
 use Rattle.rules.specs.Laws.Bools.{bool_cases, not_i, not_both, same_by}
 use Rattle.rules.specs.Laws.Kinds.{nothing_dead}
 use Rattle.rules.specs.Laws.Usage.{use_container, use_segment, use_cleared}

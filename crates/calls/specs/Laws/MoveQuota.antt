@@ -5,7 +5,8 @@ use Rattle.std.proofs.Math.Path.{sym, ap}
 use mathlib.Core.List.{List, [], ◌∷◌, ◌++◌}
 use Rattle.std.proofs.lemmas.Bool.{eqb-false}
 use Rattle.labels.specs.declared.Label.{Label}
-use Rattle.rules.specs.Kernel.{segment_code, container_code, Obj, Verdict, refuse, grant, must, must_hold, fits, is_segment, is_container, writing, flow, move_quota, alter, requota, root_quota, last_number}
+use Rattle.rules.specs.Kernel.{segment_code, container_code, Obj, Verdict, refuse, grant, must, must_hold, fits}
+use Rattle.rules.specs.Kernel.{is_segment, is_container, writing, flow, move_quota, alter, requota, root_quota, last_number}
 use Rattle.rules.specs.Laws.Bools.{bool_cases}
 use Rattle.tables.specs.Layout.{View, view}
 use Rattle.book.specs.declared.find.Entry.TheVariants as place

@@ -1,6 +1,7 @@
 -- Laws of text, and some examples of it.
 use Rattle.std.specs.Prelude.{ℕ, zero, suc, ◌+◌, ◌*◌, ◌-◌, ◌/◌, ◌%◌, ◌^◌, ◌<◌, ◌≤◌, Bool, true, false, cond, ◌≡◌, refl, List, [], ◌∷◌, ◌++◌, ltb, length, get_or, set, take, drop}
-use Rattle.std.proofs.Common.{sym, ◌∙◌, add-zero, add-one, arith, lt-ltb, le-ltb, ltb-true, ltb-false, length-append, length-set, take-append-drop, drop_of_length-le, drop-cons, take-suc-set, drop-set-lt}
+use Rattle.std.proofs.Common.{sym, ◌∙◌, add-zero, add-one, arith, lt-ltb, le-ltb, ltb-true, ltb-false, length-append}
+use Rattle.std.proofs.Common.{length-set, take-append-drop, drop_of_length-le, drop-cons, take-suc-set, drop-set-lt}
 use Rattle.std.proofs.Math.Nat.{pow-succ', one-le-pow, pow-le-pow_right}
 use Rattle.std.proofs.Math.Seq.{append_snoc}
 use Rattle.io.specs.Digits.{last_digits, IsDigitCount}

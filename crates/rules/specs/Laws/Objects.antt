@@ -5,7 +5,8 @@ use mathlib.Core.List.{List, []}
 use Rattle.std.proofs.Common.{arith}
 use Rattle.labels.specs.declared.Label.{Label}
 use Rattle.labels.specs.Core.{well_formed, flows, word_count}
-use Rattle.rules.specs.Kernel.{Kind, thread, gate, segment, container, kind_code, is_thread, is_gate, has_clearance, blank, plain_object, container_of, segment_of, gate_of, thread_of, max_mask, text_size}
+use Rattle.rules.specs.Kernel.{Kind, thread, gate, segment, container, kind_code, is_thread, is_gate, has_clearance}
+use Rattle.rules.specs.Kernel.{blank, plain_object, container_of, segment_of, gate_of, thread_of, max_mask, text_size}
 use Rattle.rules.specs.Fair.{Whole}
 
 module _ (n : ℕ) (l : Label) (words : length l.words ≡ word_count) (s : List ℕ) (size : length s ≡ text_size) where

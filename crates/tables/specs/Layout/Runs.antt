@@ -1,6 +1,7 @@
 -- Numbers that stand in a row, written or read one by one.
 use Rattle.std.specs.Prelude.{◌≡◌, refl, Bool, true, false, cond, ℕ, suc, ◌+◌, ◌-◌, ◌*◌, ◌<◌, ◌≤◌, List, [], ◌∷◌, ◌++◌, length, get_or, set, take, drop, eqb}
-use Rattle.std.proofs.Common.{sym, ap, ◌∙◌, add-zero, add-suc, suc-add, mul-le-mul_left, add-one, arith, append_assoc, length-drop, take-suc, take-suc-set, take_at, drop_at, drop-set-lt, get_or-take, get_or-drop, ext_get_or, length-take-le}
+use Rattle.std.proofs.Common.{sym, ap, ◌∙◌, add-zero, add-suc, suc-add, mul-le-mul_left, add-one, arith, append_assoc, length-drop}
+use Rattle.std.proofs.Common.{take-suc, take-suc-set, take_at, drop_at, drop-set-lt, get_or-take, get_or-drop, ext_get_or, length-take-le}
 use Rattle.std.proofs.lemmas.List.Edits.{sets, sets-eq}
 use Rattle.std.proofs.lemmas.List.{take-set-le, drop-set-add}
 use Rattle.labels.specs.Core.{words_at}
