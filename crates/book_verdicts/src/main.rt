@@ -1,10 +1,12 @@
 // Builds books as it is told, damages them, and prints whether each is sound. The commands are in hosts/README.md.
 #![tactic(auto)]
 
-ghost use Rattle.std.specs.Prelude.{◌<◌};
+ghost use Rattle.std.specs.Prelude.{◌≡◌, ◌≤◌, ◌<◌, length, IfOk, OnErr};
+ghost use Rattle.book_verdicts.specs.declared.Told.TheVariants.{Sound, Unsound};
 
 use labels::bytes::get_u64;
-use libc::{STDIN_FILENO, STDOUT_FILENO};
+use std::io;
+use std::io::Read;
 use tables::BOOK_LEN;
 
 // No index: there was no command left.
@@ -37,24 +39,39 @@ fn put_number(book: &mut [u8], offset: usize, width: usize, number: u64) {
     let mut rest = number;
     let mut i = 0;
     while i < width {
-        put_byte(
-            book,
-            std::num::wrapping_add_usize(offset, i),
-            (rest % 256) as u8,
-        );
+        put_byte(book, offset.wrapping_add(i), (rest % 256) as u8);
         rest = rest / 256;
         i += 1;
     }
 }
 
-// Command W: an offset in four bytes, a width in one, a number in eight.
-fn put_told(book: &mut [u8]) {
+// Reads until the buffer is full or the input ends; answers how many bytes it put at the buffer's start. The only error is
+// that of a read, and the buffer may then have some of the input.
+fn read_full(input: &mut impl Read, buf: &mut [u8]) -> io::Result<usize>
+    ensures { IfOk result (λ n. n ≤ length buf.new) }
+{
+    let mut done = 0;
+    while done < buf.len() {
+        let n = input.read(&mut buf[done..])?;
+        if n == 0 {
+            break;
+        }
+        done += n;
+    }
+    Ok(done)
+}
+
+// Command W: an offset in four bytes, a width in one, a number in eight. The only error is that of a read.
+fn put_told(input: &mut impl Read, book: &mut [u8]) -> io::Result<()>
+    ensures { OnErr result (book.new ≡ book.old) }
+{
     let mut told = [0u8; 13];
-    io::read_full(STDIN_FILENO, &mut told);
+    read_full(input, &mut told)?;
     let offset = wide(told[0]) + 256 * wide(told[1]) + 65536 * wide(told[2]);
     let width = wide(told[4]);
     let number = get_u64(&told, 5);
     put_number(book, offset, width, number);
+    Ok(())
 }
 
 // Command Z: every byte 0.
@@ -66,58 +83,67 @@ fn clear(book: &mut [u8]) {
     }
 }
 
-// Does one command.
-fn obey(book: &mut [u8]) -> Told {
+// Does one command. The only error is that of a read.
+fn obey(input: &mut impl Read, book: &mut [u8]) -> io::Result<Told>
+    ensures err { OnErr result (book.new ≡ book.old) }
+    ensures sound { IfOk result (λ t. t ≡ Sound → book.new ≡ book.old) }
+    ensures unsound { IfOk result (λ t. t ≡ Unsound → book.new ≡ book.old) }
+{
     let mut op = [0u8; 1];
-    let got = io::read_full(STDIN_FILENO, &mut op);
+    let got = read_full(input, &mut op)?;
     if got == 0 {
-        return Told::End;
+        return Ok(Told::End);
     }
     let what = op[0];
     if what == b'V' {
         if book::sound::sound(book) {
-            return Told::Sound;
+            return Ok(Told::Sound);
         }
-        return Told::Unsound;
+        return Ok(Told::Unsound);
     }
     if what == b'W' {
-        put_told(book);
-        return Told::Quiet;
+        put_told(input, book)?;
+        return Ok(Told::Quiet);
     }
     if what == b'Z' {
         clear(book);
-        return Told::Quiet;
+        return Ok(Told::Quiet);
     }
-    Told::Quiet
+    Ok(Told::Quiet)
 }
 
-// Prints the line of a verdict, and answers the next index.
-fn print(index: u64, verdict: &[u8]) -> u64 {
-    io::print_decimal(STDOUT_FILENO, index);
-    io::write_all(STDOUT_FILENO, verdict);
-    std::num::wrapping_add_u64(index, 1)
+// Prints the line of a verdict, and answers the next index. The only error is that of a write.
+fn print(rt: &impl Print, index: u64, verdict: &[u8]) -> io::Result<u64> {
+    rt.print(index)?;
+    rt.write_all(verdict)?;
+    Ok(index.wrapping_add(1))
 }
 
-// Does one command and prints what is to be printed; answers the next index, or the last one where no command is left.
-fn turn(book: &mut [u8], index: u64) -> u64 {
-    match obey(book) {
-        Told::Sound => print(index, b" 1\n"),
-        Told::Unsound => print(index, b" 0\n"),
-        Told::Quiet => index,
-        Told::End => NO_MORE,
+// Does one command and prints what is to be printed; answers the next index, or the last one where no command is left. The
+// only error is that of a read or a write.
+fn turn(rt: &impl Print, input: &mut impl Read, book: &mut [u8], index: u64) -> io::Result<u64>
+    ensures { OnErr result (book.new ≡ book.old) }
+{
+    match obey(input, book)? {
+        Told::Sound => print(rt, index, b" 1\n"),
+        Told::Unsound => print(rt, index, b" 0\n"),
+        Told::Quiet => Ok(index),
+        Told::End => Ok(NO_MORE),
     }
 }
 
 // A proved loop has to end, and nothing says that the input does: so the commands are counted down, from more than any run has.
-fn main() {
+fn main(rt: HostRuntime) -> io::Result<()> {
+    let mut input = rt.stdin();
     let mut book = [0u8; BOOK_LEN];
     let mut index: u64 = 0;
     let mut left: u64 = 4294967296;
     while left > 0 {
-        index = turn(&mut book, index);
+        index = turn(&rt, &mut input, &mut book, index)?;
         if index == NO_MORE {
-            return;
+            return Ok(());
         }
         left -= 1;
     }
+    Ok(())
 }

@@ -1,4 +1,5 @@
 // The day of docs/RULES.md 10.2, run on the kernel: one line a call, with its number, caller, call, answer and value.
+// Where a line can't be written the day goes on all the same, and the first such error is answered at its end.
 #![tactic(auto)]
 
 ghost use Rattle.std.specs.Prelude.{◌≡◌, length};
@@ -24,148 +25,219 @@ use calls::unreference::unreference;
 use labels::Label;
 use labels::bytes::into_bytes;
 use labels::pair::with_pair;
-use libc::STDOUT_FILENO;
+use std::io;
 use tables::{BOOK_LEN, TEXT_SIZE};
 
-fn print_number(n: u64, after: &[u8]) {
-    io::print_decimal(STDOUT_FILENO, n);
-    io::write_all(STDOUT_FILENO, after);
+fn print_number(rt: &impl Print, n: u64, after: &[u8]) -> io::Result<()> {
+    rt.print(n)?;
+    rt.write_all(after)
 }
 
-fn print_line(number: u64, caller: u64, call: u64, answer: u64, value: u64) {
-    print_number(number, b" ");
-    print_number(caller, b" ");
-    print_number(call, b" ");
-    print_number(answer, b" ");
-    print_number(value, b"\n");
+fn print_line(
+    rt: &impl Print,
+    number: u64,
+    caller: u64,
+    call: u64,
+    answer: u64,
+    value: u64,
+) -> io::Result<()> {
+    print_number(rt, number, b" ")?;
+    print_number(rt, caller, b" ")?;
+    print_number(rt, call, b" ")?;
+    print_number(rt, answer, b" ")?;
+    print_number(rt, value, b"\n")
 }
 
-fn print(number: u64, caller: u64, call: u64, answer: Answer) {
+fn print(rt: &impl Print, number: u64, caller: u64, call: u64, answer: Answer) -> io::Result<()> {
     match answer {
-        Answer::Granted(v) => print_line(number, caller, call, 0, v),
-        Answer::Refused(k) => print_line(number, caller, call, k, 0),
+        Answer::Granted(v) => print_line(rt, number, caller, call, 0, v),
+        Answer::Refused(k) => print_line(rt, number, caller, call, k, 0),
     }
 }
 
 // Calls 102 to 104: a category, and a container with a segment in it.
-fn grants(b: &mut [u8], area: &mut [u8], tainted: &[u8], text: &[u8])
+fn grants(
+    rt: &impl Print,
+    b: &mut [u8],
+    area: &mut [u8],
+    tainted: &[u8],
+    text: &[u8],
+) -> io::Result<()>
     ensures { Plays (λ h. granted h tainted.now text.now) b.old area.old b.new area.new }
 {
-    print(102, 101, 1, create_category(b, area, 101));
-    print(
+    let first = print(rt, 102, 101, 1, create_category(b, area, 101));
+    let second = print(
+        rt,
         103,
         101,
         4,
         create_container(b, area, 101, 100, tainted, text, 0, 20),
     );
-    print(
+    let third = print(
+        rt,
         104,
         101,
         5,
         create_segment(b, area, 101, 103, tainted, text, 0),
     );
+    first.and(second).and(third)
 }
 
 // Calls 105 to 107: the segment grows as far as its quota, and the neighbour gets its thread.
-fn grows(b: &mut [u8], area: &mut [u8], one: &[u8], two: &[u8], text: &[u8])
+fn grows(
+    rt: &impl Print,
+    b: &mut [u8],
+    area: &mut [u8],
+    one: &[u8],
+    two: &[u8],
+    text: &[u8],
+) -> io::Result<()>
     ensures { Plays (λ h. peopled h one.now two.now text.now) b.old area.old b.new area.new }
 {
-    print(105, 101, 14, resize(b, area, 101, 103, 104, 256));
-    print(106, 101, 14, resize(b, area, 101, 103, 104, 257));
-    print(
+    let first = print(rt, 105, 101, 14, resize(b, area, 101, 103, 104, 256));
+    let second = print(rt, 106, 101, 14, resize(b, area, 101, 103, 104, 257));
+    let third = print(
+        rt,
         107,
         101,
         7,
         create_thread(b, area, 101, 100, one, two, text),
     );
+    first.and(second).and(third)
 }
 
 // Call 108: the neighbour looks.
-fn reads(b: &mut [u8], area: &[u8])
+fn reads(rt: &impl Print, b: &mut [u8], area: &[u8]) -> io::Result<()>
     ensures { Plays (λ h. looked h) b.old area.now b.new area.now }
 {
     let mut answer: u64 = 0;
     let mut value: u64 = 0;
     read(b, area, 107, 103, 104, 0, 0, 1, &mut answer, &mut value);
-    print_line(108, 107, 12, answer, value);
+    print_line(rt, 108, 107, 12, answer, value)
 }
 
 // Calls 109 to 111: it raises its label, and takes what it can get.
-fn crowds(b: &mut [u8], area: &mut [u8], one: &[u8], tainted: &[u8], text: &[u8])
+fn crowds(
+    rt: &impl Print,
+    b: &mut [u8],
+    area: &mut [u8],
+    one: &[u8],
+    tainted: &[u8],
+    text: &[u8],
+) -> io::Result<()>
     ensures { Plays (λ h. crowded h one.now tainted.now text.now) b.old area.old b.new area.new }
 {
-    print(109, 107, 2, set_label(b, area, 107, tainted));
-    print(
+    let first = print(rt, 109, 107, 2, set_label(b, area, 107, tainted));
+    let second = print(
+        rt,
         110,
         107,
         5,
         create_segment(b, area, 107, 100, one, text, 234),
     );
-    print(
+    let third = print(
+        rt,
         111,
         107,
         5,
         create_segment(b, area, 107, 100, one, text, 233),
     );
+    first.and(second).and(third)
 }
 
 // Calls 112 to 114: the container still has what it was granted, and no more.
-fn keeps(b: &mut [u8], area: &mut [u8], tainted: &[u8], text: &[u8])
+fn keeps(
+    rt: &impl Print,
+    b: &mut [u8],
+    area: &mut [u8],
+    tainted: &[u8],
+    text: &[u8],
+) -> io::Result<()>
     ensures { Plays (λ h. kept h tainted.now text.now) b.old area.old b.new area.new }
 {
-    print(112, 101, 11, move_quota(b, area, 101, 100, 103, 1));
-    print(
+    let first = print(rt, 112, 101, 11, move_quota(b, area, 101, 100, 103, 1));
+    let second = print(
+        rt,
         113,
         101,
         5,
         create_segment(b, area, 101, 103, tainted, text, 14),
     );
-    print(
+    let third = print(
+        rt,
         114,
         101,
         5,
         create_segment(b, area, 101, 103, tainted, text, 1),
     );
+    first.and(second).and(third)
 }
 
 // Calls 115 to 117: the neighbour's segment goes, and there is room again.
-fn frees(b: &mut [u8], area: &mut [u8])
+fn frees(rt: &impl Print, b: &mut [u8], area: &mut [u8]) -> io::Result<()>
     ensures { Plays (λ h. freed h) b.old area.old b.new area.new }
 {
-    print(115, 101, 8, unreference(b, area, 101, 100, 111));
-    print(116, 111, 1, create_category(b, area, 111));
-    print(117, 101, 11, move_quota(b, area, 101, 100, 103, 1));
+    let first = print(rt, 115, 101, 8, unreference(b, area, 101, 100, 111));
+    let second = print(rt, 116, 111, 1, create_category(b, area, 111));
+    let third = print(rt, 117, 101, 11, move_quota(b, area, 101, 100, 103, 1));
+    first.and(second).and(third)
 }
 
 // The first half of the day, and the second.
-fn morning(b: &mut [u8], area: &mut [u8], one: &[u8], two: &[u8], tainted: &[u8], text: &[u8])
+fn morning(
+    rt: &impl Print,
+    b: &mut [u8],
+    area: &mut [u8],
+    one: &[u8],
+    two: &[u8],
+    tainted: &[u8],
+    text: &[u8],
+) -> io::Result<()>
     requires { (length b.old ≡ size) × (length area.old ≡ area_size) }
     ensures { After (peopled (granted (started 100) tainted.now text.now) one.now two.now text.now) b.new area.new }
 {
     start(b, area, 100);
-    grants(b, area, tainted, text);
-    grows(b, area, one, two, text);
+    let granted = grants(rt, b, area, tainted, text);
+    let grown = grows(rt, b, area, one, two, text);
+    granted.and(grown)
 }
 
-fn evening(b: &mut [u8], area: &mut [u8], one: &[u8], tainted: &[u8], text: &[u8])
+fn evening(
+    rt: &impl Print,
+    b: &mut [u8],
+    area: &mut [u8],
+    one: &[u8],
+    tainted: &[u8],
+    text: &[u8],
+) -> io::Result<()>
     ensures { Plays (λ h. freed (kept (crowded h one.now tainted.now text.now) tainted.now text.now)) b.old
         area.old b.new area.new }
 {
-    crowds(b, area, one, tainted, text);
-    keeps(b, area, tainted, text);
-    frees(b, area);
+    let crowded = crowds(rt, b, area, one, tainted, text);
+    let kept = keeps(rt, b, area, tainted, text);
+    let freed = frees(rt, b, area);
+    crowded.and(kept).and(freed)
 }
 
-fn run(b: &mut [u8], area: &mut [u8], one: &[u8], two: &[u8], tainted: &[u8], text: &[u8])
+fn run(
+    rt: &impl Print,
+    b: &mut [u8],
+    area: &mut [u8],
+    one: &[u8],
+    two: &[u8],
+    tainted: &[u8],
+    text: &[u8],
+) -> io::Result<()>
     requires { (length b.old ≡ size) × (length area.old ≡ area_size) }
     ensures { After (day one.now two.now tainted.now text.now) b.new area.new }
 {
-    morning(b, area, one, two, tainted, text);
-    reads(b, area);
-    evening(b, area, one, tainted, text);
+    let first = morning(rt, b, area, one, two, tainted, text);
+    let noon = reads(rt, b, area);
+    let second = evening(rt, b, area, one, tainted, text);
+    first.and(noon).and(second)
 }
 
-fn main() {
+fn main(rt: HostRuntime) -> io::Result<()> {
     let mut book = [0u8; BOOK_LEN];
     let mut area = [0u8; AREA_LEN];
     let text = [0u8; TEXT_SIZE];
@@ -177,5 +249,5 @@ fn main() {
     let paired = with_pair(Label::of_default(Label::LEVEL1), 102, Label::LEVEL3);
     let label = paired.label;
     into_bytes(label, &mut tainted);
-    run(&mut book, &mut area, &one, &two, &tainted, &text);
+    run(&rt, &mut book, &mut area, &one, &two, &tainted, &text)
 }

@@ -2,14 +2,14 @@
 // labels X, Y and Z in 65 bytes each. The operations are in hosts/README.md.
 #![tactic(auto)]
 
-ghost use Rattle.std.specs.Prelude.{◌≡◌, ◌+◌, ◌*◌, ◌≤◌, ◌<◌, length};
+ghost use Rattle.std.specs.Prelude.{◌≡◌, ◌+◌, ◌*◌, ◌≤◌, ◌<◌, length, IfOk};
 ghost use Rattle.labels.specs.Core.{held_in};
 ghost use Rattle.label_vectors.specs.Asked.{asked};
 ghost use Rattle.label_vectors.specs.Text.{put};
 ghost use Rattle.label_vectors.specs.Line.{pair_text, answer_text, line_text, lines_text};
 
 use labels::{Held, Label, bytes, compare, form, in_place, pair, words};
-use libc::{STDIN_FILENO, STDOUT_FILENO};
+use std::io::{Read, Write};
 
 mod text; // text.rt: text in a buffer
 
@@ -116,30 +116,49 @@ fn put_lines(out: &mut [u8], first: u64, cases: &[u8], count: usize) -> usize
     at
 }
 
-// Reads up to 300 cases and writes their lines; answers how many there were.
-fn turn(first: u64) -> u64
+// Reads until the buffer is full or the input ends; answers how many bytes it put at the buffer's start. The only error is
+// that of a read, and the buffer may then have some of the input.
+fn read_full(input: &mut impl Read, buf: &mut [u8]) -> std::io::Result<usize>
+    ensures { IfOk result (λ n. n ≤ length buf.new) }
+{
+    let mut done = 0;
+    while done < buf.len() {
+        let n = input.read(&mut buf[done..])?;
+        if n == 0 {
+            break;
+        }
+        done += n;
+    }
+    Ok(done)
+}
+
+// Reads up to 300 cases and writes their lines; answers how many there were. The only error is that of a read or a write.
+fn turn(input: &mut impl Read, output: &mut impl Write, first: u64) -> std::io::Result<u64>
     requires { first < 9223372036854775808 }
-    ensures { result ≤ 300 }
+    ensures { IfOk result (λ n. n ≤ 300) }
 {
     let mut cases = [0u8; 61200];
     let mut out = [0u8; 45600];
-    let got = io::read_full(STDIN_FILENO, &mut cases);
+    let got = read_full(input, &mut cases)?;
     let count = got / CASE;
     let used = put_lines(&mut out, first, &cases, count);
-    io::write_all(STDOUT_FILENO, &out[..used]);
-    count as u64
+    output.write_all(&out[..used])?;
+    Ok(count as u64)
 }
 
 // A proved loop has to end, and nothing says that the input does: so the turns are counted down, from more than any run takes.
-fn main() {
+fn main(rt: HostRuntime) -> std::io::Result<()> {
+    let mut input = rt.stdin();
+    let mut output = rt.stdout();
     let mut index = 0;
     let mut turns: u64 = 4294967296;
     while turns > 0 {
-        let count = turn(index);
+        let count = turn(&mut input, &mut output, index)?;
         if count == 0 {
-            return;
+            return Ok(());
         }
         index += count;
         turns -= 1;
     }
+    Ok(())
 }
