@@ -1,5 +1,5 @@
 use Rattle.std.proofs.Common.{rules}
-use Rattle.histories.specs.Laws.Spelled.{left_after}
+use Rattle.histories.proofs.Laws.Spelled.{left_after}
 use Rattle.grantday.proofs.keeps.Goals as goal
 
 pub returns : goal.returns

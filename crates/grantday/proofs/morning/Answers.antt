@@ -1,5 +1,5 @@
 use Rattle.std.proofs.Common.{rules}
-use Rattle.histories.specs.Laws.Spelled.{start_begins}
+use Rattle.histories.proofs.Laws.Spelled.{start_begins}
 use Rattle.grantday.specs.Steps.{can_start}
 use Rattle.grantday.proofs.morning.Goals as goal
 

@@ -1,4 +1,4 @@
-use Rattle.histories.specs.Laws.Spelled.{left_after}
+use Rattle.histories.proofs.Laws.Spelled.{left_after}
 use Rattle.grantday.proofs.reads.Goals as goal
 
 pub returns : goal.returns
