@@ -42,7 +42,7 @@ abbrev pub value_in : Answer → ℕ
 value_in (Granted v) = v
 value_in (Refused k) = 0
 
--- What a call on areas b and area leaves as b' and area'. Equal views of books of the right length are equal bytes (tables' view-only); where the areas are refused,
+-- What a call on areas b and area leaves as b' and area'. Equal views of books of the right length are equal bytes (tables' view_only); where the areas are refused,
 -- the book is the same bytes whatever its length.
 pub record Left (b area : List ℕ) (c : ℕ) (x : Call) (b' area' : List ℕ) : Type 0 where
   pub length_same : length b' ≡ length b

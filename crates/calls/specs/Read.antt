@@ -55,7 +55,7 @@ begins_at (refused r) p = 0
 begins_at (grant v o h) p = p
 
 -- RULES 8.12: "The output is the part of the data area that has the bytes of S from 64k + from on, count of them; nothing is copied. If count is 0 or the call is refused, the
--- part is empty." Answer and value go into lent numbers. A reference's place is a piece of memory and a byte of it (`ptr`), so "nothing is copied" is said by the place, beside
+-- part is empty." Answer and value go into lent numbers. A reference's place is a piece of memory and a byte of it (`ref_ptr`), so "nothing is copied" is said by the place, beside
 -- the bytes. The data area is only lent to be read, so it stays as it was.
 pub record Shown (b : List ℕ) (area : Bor (List ℕ)) (c d s k f n answer value : ℕ) (part : Bor (List ℕ)) (b' : List ℕ) : Type 0 where
   pub answer_is : answer ≡ answer_of (verdict_on b area.now c (read d s k f n))

@@ -1,2 +1,2 @@
-// The demands, said of every history of the two areas: specs/ has the statements and their proofs.
+// The demands, said of every history of the two areas: specs/ has the statements, proofs/ their proofs.
 #![tactic(auto)]

@@ -7,6 +7,6 @@ unfoldable pub first_world : History → World
 first_world (beginning w) = w
 first_world (next h c x) = first_world h
 
--- it is sound, as Start's is (`start-is-sound` in proofs/Theorems/StaysSound)
+-- it is sound, as Start's is (`start_is_sound` in proofs/Theorems/StaysSound)
 abbrev pub WellStarted : History → Type 0
 WellStarted h = Sound (first_world h)

@@ -22,7 +22,7 @@ use Rattle.calls.specs.Started.{lengths_right, start_answer}
 use Rattle.calls.specs.Started as calls
 use Rattle.calls.specs.Theorems.Kept.{verdict_is, stays_good, world_after_lem}
 use Rattle.calls.specs.Theorems.Clear.{stays_wiped}
-use Rattle.flytewood.specs.Called.{Bytes, Called, Started}
+use Rattle.flytewood.specs.Called.{Bytes, Called}
 use Rattle.flytewood.specs.Laws.{Typed, typed_bytes, starts}
 use Rattle.histories.specs.Areas.{world, After, begun, called}
 use Rattle.histories.specs.Demands.{AsRuled}

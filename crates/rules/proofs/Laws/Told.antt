@@ -7,7 +7,7 @@ use Rattle.std.proofs.Math.Dec.{eqb}
 use borrow.Author.Tests.{eqb-true, eq-eqb, ne_eqb}
 use Rattle.quotas.specs.Any.{any_of}
 use Rattle.rules.specs.Kernel.{World, Obj, nothing, is_live, Edit, relabel, fix, requota, rewrite, edit, Change, keep, alter, create, cut, link, put, stays, kept, apply, Call}
-use Rattle.rules.specs.Kernel.{beginning, next, after}
+use Rattle.rules.specs.Kernel.{beginning, after}
 use Rattle.rules.specs.Sound.{Sound}
 use Rattle.rules.specs.Ledger.{Line, line_of, granted_by, granted, charge_by, charge}
 use Rattle.rules.proofs.Laws.Bools.{not_both, bool_cases, then_l, or_i_r}

@@ -2,7 +2,7 @@
 -- container, or the segment that holds its list.
 use Rattle.std.specs.Prelude.{ℕ, ◌≤◌, ◌<◌, true, false, cond, ◌≡◌, refl}
 use Rattle.std.proofs.Common.{arith, ◌∙◌, ap, subst, le-leb}
-use Rattle.rules.specs.Kernel.{World, is_live, is_segment, is_container, units, spare_of, Call, resize, call, after, answer_of, History, next, world_after}
+use Rattle.rules.specs.Kernel.{World, is_live, is_segment, is_container, units, spare_of, Call, resize, call, after, answer_of, History, world_after}
 use Rattle.rules.specs.Histories.{first_world, WellStarted}
 use Rattle.rules.specs.Ledger.{reckoned, spends, draws, needs, refused_earlier, Meanwhile, nothing_yet, another}
 use Rattle.rules.proofs.Laws.Kinds.{segment_live, container_live}

@@ -10,7 +10,7 @@ use Rattle.quotas.specs.Reach.{reached}
 use Rattle.rules.specs.Kernel.{is_live, is_container, World, History, world_after, hold_of, under, below, root_quota}
 use Rattle.rules.specs.Sound.{Sound}
 use Rattle.rules.specs.Histories.{WellStarted}
-use Rattle.rules.specs.Trees.{Way, here, down, Reaches, in_tree}
+use Rattle.rules.specs.Trees.{here, down, Reaches, in_tree}
 use Rattle.rules.proofs.Laws.Kinds.{container_live}
 use Rattle.rules.proofs.Laws.Falls.{falls}
 use Rattle.rules.proofs.Laws.Below.{under_step, below_self, below_down}

@@ -1,5 +1,5 @@
 -- Theorem 8: the numbers of calls, their values, and the ids and categories that they issue. That each call takes the next number, but for answer 2, is
--- `number-taken` and `ended-world` in Refusals.
+-- `number_taken` and `ended_world` in Refusals.
 use Rattle.std.specs.Prelude.{ℕ, zero, suc, ◌<◌, ◌≤◌, Bool, true, false, cond, ◌&&◌, ◌⊎◌, ◌≡◌, refl, List, [], ◌∷◌, length, get_or, eqb, pos, negsuc}
 use Rattle.std.proofs.Math.Decide.{ℕ_discrete, dec_lt}
 use Rattle.std.proofs.Common.{not-suc-le-zero, le_of_suc-le-suc, arith, inl, inr, ⊎_elim, sym, ◌∙◌, ap, subst, eqb-true, eq-eqb}
@@ -73,7 +73,7 @@ module _ (w : World) (c : ℕ) where
       let k = granted w c x a in
       same_value _ _ _ _ _ _ (call_outcome w c x _ _ k.change k.verdict)
 
-  -- Every other granted call has 0. (A refused call has 0 by `refused-value` in Refusals.)
+  -- Every other granted call has 0. (A refused call has 0 by `refused_value` in Refusals.)
   pub other_value : (x : Call) → answer_of (call w c x) ≡ 0 → issues x ≡ false → (call_number x ≡ 15 → ⊥) → value_of (call w c x) ≡ 0
   other_value x a i n = let g = granted w c x a in none w (w.obj c) c _ _ g.change x i n (call_outcome w c x _ _ g.change g.verdict)
 

@@ -106,7 +106,7 @@ no_outcome w c (resize d o n) e = refl
 no_outcome w c (enter_gate d g lr cr lv out) e = absurd (omega arith)
 no_outcome w c (look d o out) e = absurd (omega arith)
 
--- In every world a call that has no output puts out none, granted or refused; that a refused call puts out none is `refused-output` in Refusals.
+-- In every world a call that has no output puts out none, granted or refused; that a refused call puts out none is `refused_output` in Refusals.
 pub no_output : (w : World) (c : ℕ) (x : Call) → output_size x ≡ 0 → output_of (call w c x) ≡ []
 unfolding output_of
 no_output w c x z = go (call w c x) refl
