@@ -7,7 +7,8 @@ use Rattle.book.proofs.resize.drop_blocks.Given as goal
 
 abbrev pub invariant-loop-x : goal.invariant-loop-x
 invariant-loop-x l =
-    (l.x ≤ block_count) × (length l.b ≡ length l.initial.b) × (length l.area ≡ length l.initial.area) × (view l.b ≡ dropped_to l.x l.r l.k (view l.initial.b)) × (l.area ≡ wiped_to l.x l.r l.k (view l.initial.b) l.initial.area)
+    (l.x ≤ block_count) × (length l.b ≡ length l.initial.b) × (length l.area ≡ length l.initial.area) × (view l.b ≡ dropped_to l.x l.r l.k (view l.initial.b))
+    × (l.area ≡ wiped_to l.x l.r l.k (view l.initial.b) l.initial.area)
 
 abbrev pub decreases-loop-x : goal.decreases-loop-x
 decreases-loop-x l = block_count - l.x

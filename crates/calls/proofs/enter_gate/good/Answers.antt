@@ -12,8 +12,10 @@ returns-then-not-good_label-2 c =
 
 pub returns-then-not-good_label-3 : goal.returns-then-not-good_label-3
 returns-then-not-good_label-3 c =
-    sym (verify_bad _ _ _ _ _ (sym c.good_label.ensures ∙ c.if-not-good_label.false) (sym c.good_label-2.ensures ∙ c.if-not-good_label-2.false) (sym c.good_label-3.ensures ∙ c.if-not-good_label-3.true))
+    sym (verify_bad _ _ _ _ _ (sym c.good_label.ensures ∙ c.if-not-good_label.false)
+    (sym c.good_label-2.ensures ∙ c.if-not-good_label-2.false) (sym c.good_label-3.ensures ∙ c.if-not-good_label-3.true))
 
 pub returns : goal.returns
 returns c =
-    sym (output_asked _ _ _ _ _ (sym c.good_label.ensures ∙ c.if-not-good_label.false) (sym c.good_label-2.ensures ∙ c.if-not-good_label-2.false) (sym c.good_label-3.ensures ∙ c.if-not-good_label-3.false))
+    sym (output_asked _ _ _ _ _ (sym c.good_label.ensures ∙ c.if-not-good_label.false)
+    (sym c.good_label-2.ensures ∙ c.if-not-good_label-2.false) (sym c.good_label-3.ensures ∙ c.if-not-good_label-3.false))

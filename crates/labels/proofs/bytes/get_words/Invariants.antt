@@ -7,7 +7,8 @@ use Rattle.labels.proofs.bytes.get_words.Given as goal
 
 abbrev pub invariant-loop-i : goal.invariant-loop-i
 invariant-loop-i l =
-    (l.i ≤ length l.words) × (length l.words ≡ length l.initial.words) × (l.place ≡ l.from + l.i * 8) × (words_at (length l.initial.words) l.b l.from ≡ take l.i l.words ++ words_at (length l.initial.words - l.i) l.b l.place)
+    (l.i ≤ length l.words) × (length l.words ≡ length l.initial.words) × (l.place ≡ l.from + l.i * 8)
+    × (words_at (length l.initial.words) l.b l.from ≡ take l.i l.words ++ words_at (length l.initial.words - l.i) l.b l.place)
 
 abbrev pub decreases-loop-i : goal.decreases-loop-i
 decreases-loop-i l = length l.initial.words - l.i
