@@ -4,9 +4,9 @@
 ghost use Rattle.std.specs.Prelude.{◌≡◌};
 ghost use Rattle.compared.specs.Answers.{may_write_lent, floor_flows_lent};
 
-use labels::WORDS;
-use labels::compare::{floor_flows, may_write};
+use labels::compare::{compare, may_write};
 use labels::in_place::from_bytes;
+use labels::{Rule, WORDS};
 
 // The bytes of a lent label.
 const LABEL_SIZE: usize = 1 + WORDS * 8;
@@ -17,16 +17,10 @@ const LABEL_SIZE: usize = 1 + WORDS * 8;
 pub extern "C" fn fwc_may_write(t: &[u8], o: &[u8]) -> u64
     ensures { result ≡ may_write_lent t.now o.now }
 {
-    if t.len() != LABEL_SIZE {
+    if t.len() != LABEL_SIZE || o.len() != LABEL_SIZE {
         return 2;
     }
-    if o.len() != LABEL_SIZE {
-        return 2;
-    }
-    if may_write(t, from_bytes(t), o, from_bytes(o)) {
-        return 1;
-    }
-    0
+    u64::from(may_write(from_bytes(t), from_bytes(o)))
 }
 
 // Whether floor(X, Y) flows to Z.
@@ -35,17 +29,13 @@ pub extern "C" fn fwc_may_write(t: &[u8], o: &[u8]) -> u64
 pub extern "C" fn fwc_floor_flows(x: &[u8], y: &[u8], z: &[u8]) -> u64
     ensures { result ≡ floor_flows_lent x.now y.now z.now }
 {
-    if x.len() != LABEL_SIZE {
+    if x.len() != LABEL_SIZE || y.len() != LABEL_SIZE || z.len() != LABEL_SIZE {
         return 2;
     }
-    if y.len() != LABEL_SIZE {
-        return 2;
-    }
-    if z.len() != LABEL_SIZE {
-        return 2;
-    }
-    if floor_flows(x, from_bytes(x), y, from_bytes(y), z, from_bytes(z)) {
-        return 1;
-    }
-    0
+    u64::from(compare(
+        Rule::FloorFlows,
+        from_bytes(x),
+        from_bytes(y),
+        from_bytes(z),
+    ))
 }

@@ -1,9 +1,11 @@
 -- What the program prints of each case.
-use Rattle.std.specs.Prelude.{ℕ, zero, suc, ◌+◌, cond, List, [], ◌∷◌, ◌++◌, eqb, get_or, take, drop}
+use Rattle.std.specs.Prelude.{ℕ, zero, suc, ◌+◌, cond, List, [], ◌∷◌, ◌++◌, get_or, take, drop}
 use Rattle.labels.specs.declared.Label.{Label}
 use Rattle.labels.specs.Core.{at, category_of, code_of, has_room, with_pair, label_of, label_bytes}
 use Rattle.labels.specs.Le.{le_at}
-use Rattle.label_vectors.specs.Asked.{asked}
+use Rattle.label_vectors.specs.Asked.{asked, op_of}
+use Rattle.label_vectors.specs.declared.Op.{Op}
+use Rattle.label_vectors.specs.declared.Op.TheVariants.{Ask, Pair, Level}
 use Rattle.label_vectors.specs.Text.{hex_of, decimal_of}
 pub mod Laws
 
@@ -15,9 +17,11 @@ full = 102 ∷ 117 ∷ 108 ∷ 108 ∷ []
 unfoldable pub pair_text : Label → ℕ → List ℕ
 pair_text x word = cond (has_room x) (hex_of (label_bytes (with_pair (category_of word) (code_of word) x))) full
 
--- the answer to an operation: to 9 that, to 10 the label's level at the category n, and to every other `1` or `0`
-unfoldable pub answer_of : ℕ → ℕ → Label → Label → Label → List ℕ
-answer_of op n x y z = cond (eqb op 9) (pair_text x n) (cond (eqb op 10) (decimal_of (at x n)) (cond (asked op n x y z) (49 ∷ []) (48 ∷ [])))
+-- the answer to an operation: `1` or `0`, that, or the label's level at the category n
+unfoldable pub answer_of : Op → ℕ → Label → Label → Label → List ℕ
+answer_of (Ask what) n x y z = cond (asked what n x y z) (49 ∷ []) (48 ∷ [])
+answer_of Pair n x y z = pair_text x n
+answer_of Level n x y z = decimal_of (at x n)
 
 -- the label in the 65 bytes from `from` on
 abbrev pub label_at : List ℕ → ℕ → Label
@@ -25,7 +29,7 @@ label_at case from = label_of (take 65 (drop from case))
 
 -- a case is the operation in one byte, a number in eight, and three labels
 unfoldable pub answer_text : List ℕ → List ℕ
-answer_text case = answer_of (get_or case 0 0) (le_at 8 case 1) (label_at case 9) (label_at case 74) (label_at case 139)
+answer_text case = answer_of (op_of (get_or case 0 0)) (le_at 8 case 1) (label_at case 9) (label_at case 74) (label_at case 139)
 
 -- the index of the case, a space, the answer, and a line feed
 unfoldable pub line_text : ℕ → List ℕ → List ℕ

@@ -3,12 +3,14 @@
 #![tactic(auto)]
 
 ghost use Rattle.std.specs.Prelude.{◌≡◌, ◌+◌, ◌*◌, ◌≤◌, ◌<◌, length, IfOk};
-ghost use Rattle.labels.specs.Core.{held_in};
-ghost use Rattle.label_vectors.specs.Asked.{asked};
+ghost use Rattle.labels.specs.Core.{meant};
+ghost use Rattle.label_vectors.specs.Asked.{asked, op_of};
 ghost use Rattle.label_vectors.specs.Text.{put};
 ghost use Rattle.label_vectors.specs.Line.{pair_text, answer_text, line_text, lines_text};
 
-use labels::{Held, Label, bytes, compare, form, in_place, pair, words};
+use edge::read_full;
+use labels::number::Number;
+use labels::{Label, LabelRef, Rule, bytes, compare, form, in_place, pair, words};
 use std::io::{Read, Write};
 
 mod text; // text.rt: text in a buffer
@@ -16,77 +18,100 @@ mod text; // text.rt: text in a buffer
 // How many bytes a case has.
 const CASE: usize = 204;
 
-// What the operations 0 to 8 ask.
-fn asked(op: u8, n: u64, a: &[u8], x: Held, b: &[u8], y: Held, c: &[u8], z: Held) -> bool
-    ensures { result ≡ asked op n (held_in a.now x) (held_in b.now y) (held_in c.now z) }
+// What is asked of the labels X, Y and Z: the rules that look at X and Y, those that look at all three, and whether X is well formed.
+#[derive(Clone, Copy)]
+enum Question {
+    Two(Rule),
+    Three(Rule),
+    MayRead,
+    MayWrite,
+    WellFormed { star: bool },
+}
+
+// What a case is for.
+#[derive(Clone, Copy)]
+enum Op {
+    Ask(Question),
+    // the label with a pair more
+    Pair,
+    // the level at a category
+    Level,
+}
+
+// By the numbers in hosts/README.md; 8 and every other asks for a label with no star.
+impl From<u8> for Op {
+    fn from(code: u8) -> Op
+        ensures { result ≡ op_of code }
+    {
+        match code {
+            0 => Op::Ask(Question::Two(Rule::Flows)),
+            1 => Op::Ask(Question::Two(Rule::FlowsHigh)),
+            2 => Op::Ask(Question::Three(Rule::FloorFlows)),
+            3 => Op::Ask(Question::Three(Rule::FlowsJoin)),
+            4 => Op::Ask(Question::Three(Rule::FlowsJoinHigh)),
+            5 => Op::Ask(Question::MayRead),
+            6 => Op::Ask(Question::MayWrite),
+            7 => Op::Ask(Question::WellFormed { star: true }),
+            9 => Op::Pair,
+            10 => Op::Level,
+            _ => Op::Ask(Question::WellFormed { star: false }),
+        }
+    }
+}
+
+fn asked(what: Question, n: u64, x: LabelRef, y: LabelRef, z: LabelRef) -> bool
+    ensures { result ≡ asked what n (meant x.entry) (meant y.entry) (meant z.entry) }
 {
-    if op == 0 {
-        return compare::flows(a, x, b, y);
+    match what {
+        Question::Two(rule) => compare::compare_two(rule, x, y),
+        Question::Three(rule) => compare::compare(rule, x, y, z),
+        Question::MayRead => compare::may_read(x, y),
+        Question::MayWrite => compare::may_write(x, y),
+        Question::WellFormed { star } => form::well_formed(x, n, star),
     }
-    if op == 1 {
-        return compare::flows_high(a, x, b, y);
-    }
-    if op == 2 {
-        return compare::floor_flows(a, x, b, y, c, z);
-    }
-    if op == 3 {
-        return compare::flows_join(a, x, b, y, c, z);
-    }
-    if op == 4 {
-        return compare::flows_join_high(a, x, b, y, c, z);
-    }
-    if op == 5 {
-        return compare::may_read(a, x, b, y);
-    }
-    if op == 6 {
-        return compare::may_write(a, x, b, y);
-    }
-    if op == 7 {
-        return form::well_formed(a, x, n, true);
-    }
-    form::well_formed(a, x, n, false)
 }
 
 // The label with the pair whose word is `word`, in hexadecimal, or `full`.
+#[tactic(auto, using(crate::specs::Line::Laws::pair_full, crate::specs::Line::Laws::pair_spelt))]
 fn put_pair(out: &mut [u8], at: usize, x: Label, word: u64) -> usize
     requires { at + 130 ≤ length out.old }
     ensures { (result ≡ at + length (pair_text x word)) × (out.new ≡ put out.old at (pair_text x word)) }
 {
-    let paired = pair::with_pair(x, words::category(word), words::code(word));
-    if !paired.fits {
-        return text::copy(out, at, b"full");
+    match pair::with_pair(x, words::category(word), words::code(word)) {
+        None => text::copy(out, at, b"full"),
+        Some(paired) => {
+            let mut spelt = [0u8; 65];
+            bytes::into_bytes(paired, &mut spelt);
+            text::hex(out, at, &spelt)
+        }
     }
-    let mut spelt = [0u8; 65];
-    bytes::into_bytes(paired.label, &mut spelt);
-    text::hex(out, at, &spelt)
 }
 
 // The answer to a case.
+#[tactic(auto, using(crate::specs::Line::Laws::answers))]
 fn put_answer(out: &mut [u8], at: usize, case: &[u8]) -> usize
     requires { (at + 130 ≤ length out.old) × (length case.now ≡ 204) }
     ensures { (result ≡ at + length (answer_text case.now)) × (out.new ≡ put out.old at (answer_text case.now)) }
 {
-    let op = case[0];
-    let n = bytes::get_u64(case, 1);
-    let a = &case[9..74];
-    let x = in_place::from_bytes(a);
-    if op == 9 {
-        return put_pair(out, at, bytes::from_bytes(a), n);
+    let n: u64 = Number::get(case, 1);
+    let x = in_place::from_bytes(&case[9..74]);
+    match Op::from(case[0]) {
+        Op::Ask(what) => {
+            let y = in_place::from_bytes(&case[74..139]);
+            let z = in_place::from_bytes(&case[139..204]);
+            if asked(what, n, x, y, z) {
+                text::copy(out, at, b"1")
+            } else {
+                text::copy(out, at, b"0")
+            }
+        }
+        Op::Pair => put_pair(out, at, in_place::value(x), n),
+        Op::Level => text::decimal(out, at, compare::level(x, n)),
     }
-    if op == 10 {
-        return text::decimal(out, at, compare::level(a, x, n));
-    }
-    let b = &case[74..139];
-    let y = in_place::from_bytes(b);
-    let c = &case[139..204];
-    let z = in_place::from_bytes(c);
-    if asked(op, n, a, x, b, y, c, z) {
-        return text::copy(out, at, b"1");
-    }
-    text::copy(out, at, b"0")
 }
 
 // The line of the case with this index.
+#[tactic(auto, using(crate::specs::Text::Laws::decimal_length, crate::specs::Line::Laws::answer_length))]
 fn put_line(out: &mut [u8], at: usize, index: u64, case: &[u8]) -> usize
     requires { (at + 152 ≤ length out.old) × (length case.now ≡ 204) }
     ensures { (result ≡ at + length (line_text index case.now)) × (out.new ≡ put out.old at (line_text index case.now)) }
@@ -103,33 +128,11 @@ fn put_lines(out: &mut [u8], first: u64, cases: &[u8], count: usize) -> usize
     ensures { (result ≡ length (lines_text count first cases.now)) × (out.new ≡ put out.old 0 (lines_text count first cases.now)) }
 {
     let mut at = 0;
-    let mut index = first;
-    let mut start = 0;
-    let mut i = 0;
-    while i < count {
-        let end = start + CASE;
-        at = put_line(out, at, index, &cases[start..end]);
-        index += 1;
-        start = end;
-        i += 1;
+    for i in 0..count {
+        let start = i * CASE;
+        at = put_line(out, at, first + i as u64, &cases[start..start + CASE]);
     }
     at
-}
-
-// Reads until the buffer is full or the input ends; answers how many bytes it put at the buffer's start. The only error is
-// that of a read, and the buffer may then have some of the input.
-fn read_full(input: &mut impl Read, buf: &mut [u8]) -> std::io::Result<usize>
-    ensures { IfOk result (λ n. n ≤ length buf.new) }
-{
-    let mut done = 0;
-    while done < buf.len() {
-        let n = input.read(&mut buf[done..])?;
-        if n == 0 {
-            break;
-        }
-        done += n;
-    }
-    Ok(done)
 }
 
 // Reads up to 300 cases and writes their lines; answers how many there were. The only error is that of a read or a write.
@@ -146,19 +149,17 @@ fn turn(input: &mut impl Read, output: &mut impl Write, first: u64) -> std::io::
     Ok(count as u64)
 }
 
-// A proved loop has to end, and nothing says that the input does: so the turns are counted down, from more than any run takes.
+// A proved loop has to end, and nothing says that the input does: so there are so many turns, more than any run takes.
 fn main(rt: HostRuntime) -> std::io::Result<()> {
     let mut input = rt.stdin();
     let mut output = rt.stdout();
     let mut index = 0;
-    let mut turns: u64 = 4294967296;
-    while turns > 0 {
+    for _ in 0..4294967296u64 {
         let count = turn(&mut input, &mut output, index)?;
         if count == 0 {
-            return Ok(());
+            break;
         }
         index += count;
-        turns -= 1;
     }
     Ok(())
 }

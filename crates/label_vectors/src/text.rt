@@ -2,21 +2,18 @@
 ghost use Rattle.std.specs.Prelude.{◌≡◌, ◌+◌, ◌*◌, ◌≤◌, ◌<◌, length};
 ghost use Rattle.label_vectors.specs.Text.{put, digit_of, hex_of, decimal_of};
 
+#[tactic(auto, using(crate::specs::Text::Laws::put_part))]
 pub fn copy(out: &mut [u8], at: usize, text: &[u8]) -> usize
     requires { at + length text.now ≤ length out.old }
     ensures { (result ≡ at + length text.now) × (out.new ≡ put out.old at text.now) }
 {
-    let mut place = at;
-    let mut i = 0;
-    while i < text.len() {
-        out[place] = text[i];
-        place += 1;
-        i += 1;
-    }
-    place
+    let end = at + text.len();
+    out[at..end].copy_from_slice(text);
+    end
 }
 
 // A number never has more than 20 digits.
+#[tactic(auto, using(crate::specs::Text::Laws::decimal_is))]
 pub fn decimal(out: &mut [u8], at: usize, n: u64) -> usize
     requires { at + 20 ≤ length out.old }
     ensures { (result ≡ at + length (decimal_of n)) × (out.new ≡ put out.old at (decimal_of n)) }
@@ -27,29 +24,22 @@ pub fn decimal(out: &mut [u8], at: usize, n: u64) -> usize
 }
 
 // A hexadecimal digit, in lower case.
+#[tactic(auto, unfolding(crate::specs::Text::digit_of))]
 fn digit(d: u8) -> u8
     requires { d < 16 }
     ensures { result ≡ digit_of d }
 {
-    if d < 10 {
-        return b'0' + d;
-    }
-    b'a' + (d - 10)
+    if d < 10 { b'0' + d } else { b'a' + (d - 10) }
 }
 
 pub fn hex(out: &mut [u8], at: usize, bytes: &[u8]) -> usize
     requires { at + length bytes.now * 2 ≤ length out.old }
     ensures { (result ≡ at + length (hex_of bytes.now)) × (out.new ≡ put out.old at (hex_of bytes.now)) }
 {
-    let mut place = at;
-    let mut i = 0;
-    while i < bytes.len() {
-        let b = bytes[i];
-        out[place] = digit(b / 16);
-        let next = place + 1;
-        out[next] = digit(b % 16);
-        place = next + 1;
-        i += 1;
+    for i in 0..bytes.len() {
+        let place = at + i * 2;
+        out[place] = digit(bytes[i] / 16);
+        out[place + 1] = digit(bytes[i] % 16);
     }
-    place
+    at + bytes.len() * 2
 }

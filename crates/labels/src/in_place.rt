@@ -1,58 +1,74 @@
 // Labels where they are held, in the book or in bytes that are lent: what looks at a label's words reads them there, and copies none.
 ghost use Rattle.std.specs.Prelude.{◌≡◌, ◌++◌, ◌+◌, ◌*◌, ◌/◌, ◌<◌, ◌≤◌, length, get_or, take, drop};
-ghost use Rattle.labels.specs.Core.{word_count, label_size, label_of, words_bytes, spelt, held_in};
+ghost use Rattle.labels.specs.Core.{word_count, label_size, label_of, words_bytes, spelt, meant, words_in, held_in};
 
-use super::bytes::{get_u64, put_u64, wide};
-use super::{Held, WORDS};
+use super::bytes::{get_words, wide};
+use super::number::Number;
+use super::{Label, LabelRef, WORDS};
 
 // The bytes of a label's words.
 const SIZE: usize = WORDS * 8;
 
-// The label that is lent in 65 bytes of its own.
-pub fn from_bytes(b: &[u8]) -> Held
-    requires { length b.now ≡ label_size }
-    ensures { held_in b.now result ≡ label_of b.now }
+// The label with this default whose words stand in b from `from` on.
+#[tactic(auto, using(crate::specs::Core::InPlace::meant_held))]
+pub fn held(b: &[u8], default: u64, from: usize) -> LabelRef
+    ensures { meant result ≡ held_in b.now default from }
 {
-    let default = wide(b[0]);
-    Held { default, from: 1 }
+    LabelRef {
+        default,
+        words: words_of(b, from),
+    }
 }
 
-// The bytes of a label's words, where they are held: none, if they would reach past the end.
-pub fn words_of<'a>(b: &'a [u8], h: Held) -> &'a [u8]
-    ensures { (spelt result.now ≡ (held_in b.now h).words) × (length result.now ≡ length (held_in b.now h).words * 8) }
+// The label that is lent in 65 bytes of its own.
+#[tactic(auto, using(crate::specs::Core::InPlace::held_own))]
+pub fn from_bytes(b: &[u8]) -> LabelRef
+    requires { length b.now ≡ label_size }
+    ensures { meant result ≡ label_of b.now }
 {
-    let from = h.from;
+    held(b, wide(b[0]), 1)
+}
+
+// The bytes of the words that stand in b from `from` on: none, if they would reach past the end.
+pub fn words_of(b: &[u8], from: usize) -> &[u8]
+    ensures { (spelt result.now ≡ words_in b.now from) × (length result.now ≡ length (words_in b.now from) * 8) }
+{
     let n = b.len();
-    if n < SIZE {
-        return &b[..0];
-    }
-    if n - SIZE < from {
+    if n < SIZE || n - SIZE < from {
         return &b[..0];
     }
     &b[from..from + SIZE]
 }
 
 // Word i of those that the bytes spell.
+#[tactic(auto, using(crate::specs::Core::InPlace::spelt_at))]
 pub fn word_at(bytes: &[u8], i: usize) -> u64
     requires { i < length bytes.now / 8 }
     ensures { result ≡ get_or (spelt bytes.now) i 0 }
 {
-    get_u64(bytes, i * 8)
+    Number::get(bytes, i * 8)
 }
 
-// Writes the words of the label h, held in b, into `out` from `from` on.
-pub fn put_words(out: &mut [u8], from: usize, b: &[u8], h: Held)
-    requires { from + word_count * 8 ≤ length out.old }
-    ensures { out.new ≡ take from out.old ++ (words_bytes (held_in b.now h).words
-        ++ drop (from + length (held_in b.now h).words * 8) out.old) }
+// The label itself: its words are copied.
+#[tactic(auto, using(crate::specs::Core::InPlace::meant_length, crate::specs::Core::InPlace::meant_value))]
+pub fn value(l: LabelRef) -> Label
+    requires { length (meant l).words ≡ word_count }
+    ensures { result ≡ meant l.entry }
 {
-    let words = words_of(b, h);
-    let n = words.len() / 8;
-    let mut place = from;
-    let mut i = 0;
-    while i < n {
-        put_u64(out, place, word_at(words, i));
-        place += 8;
-        i += 1;
+    let mut words = [0u64; WORDS];
+    get_words(l.words, 0, &mut words);
+    Label {
+        default: l.default,
+        words,
     }
+}
+
+// Writes the words of the label l into `out` from `from` on.
+#[tactic(auto, using(crate::specs::Core::InPlace::meant_length, crate::specs::Core::InPlace::put_spelt), unfolding(crate::specs::Core::meant))]
+pub fn put_words(out: &mut [u8], from: usize, l: LabelRef)
+    requires { from + length (meant l).words * 8 ≤ length out.old }
+    ensures { out.new ≡ take from out.old ++ (words_bytes (meant l.entry).words ++ drop (from + length (meant l.entry).words * 8) out.old) }
+{
+    let n = l.words.len() / 8 * 8;
+    out[from..from + n].copy_from_slice(&l.words[..n]);
 }

@@ -10,6 +10,7 @@ pub mod compare; // compare.rt: the level at a category, and the comparisons
 pub mod form; // form.rt: when a label is well formed
 pub mod pair; // pair.rt: a label with one pair more
 pub mod bytes; // bytes.rt: numbers and labels as bytes
+pub mod number; // number.rt: numbers that bytes spell, of one, two or eight bytes
 
 // How many words a label has.
 pub const WORDS: usize = 8;
@@ -50,11 +51,11 @@ impl Label {
     }
 }
 
-// A label where it is held: its default, and where its words begin in the bytes that hold it.
+// A label where it is held: its default, and the bytes that spell its words.
 #[derive(Clone, Copy)]
-pub struct Held {
+pub struct LabelRef<'a> {
     pub default: u64,
-    pub from: usize,
+    pub words: &'a [u8],
 }
 
 // What is compared, of labels X, Y and Z.
@@ -70,11 +71,4 @@ pub enum Rule {
     FlowsJoin,
     // X flows to join(Y, high(Z))
     FlowsJoinHigh,
-}
-
-// A label with one pair more, or as it was where that does not fit. (An enum cannot hold an array.)
-#[derive(Clone, Copy)]
-pub struct Paired {
-    pub fits: bool,
-    pub label: Label,
 }

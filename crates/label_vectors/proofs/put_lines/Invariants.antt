@@ -5,9 +5,6 @@ use Rattle.label_vectors.proofs.put_lines.Given as goal
 
 abbrev pub invariant-loop-i : goal.invariant-loop-i
 invariant-loop-i l =
-    (l.i ≤ l.count) × (length l.out ≡ length l.fn.out) × (l.at ≤ l.i * 152) × (l.index ≡ l.first + l.i) × (l.start ≡ l.i * 204)
-    × (length (lines_text l.count l.first l.cases) ≡ l.at + length (lines_text (l.count - l.i) l.index (drop l.start l.cases)))
-    × (put l.fn.out 0 (lines_text l.count l.first l.cases) ≡ put l.out l.at (lines_text (l.count - l.i) l.index (drop l.start l.cases)))
-
-abbrev pub decreases-loop-i : goal.decreases-loop-i
-decreases-loop-i l = l.count - l.i
+    (length l.out ≡ length l.fn.out) × (l.at ≤ l.i * 152)
+    × (length (lines_text l.count l.first l.cases) ≡ l.at + length (lines_text (l.count - l.i) (l.first + l.i) (drop (l.i * 204) l.cases)))
+    × (put l.fn.out 0 (lines_text l.count l.first l.cases) ≡ put l.out l.at (lines_text (l.count - l.i) (l.first + l.i) (drop (l.i * 204) l.cases)))

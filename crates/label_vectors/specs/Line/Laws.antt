@@ -1,10 +1,9 @@
 -- Laws of what the program prints: how long it is at most, and that it is what the calls, one after the other, put.
 use Prim.Native.Nat.{ℕ, zero, suc, ◌+◌, ◌*◌, ◌/◌, ◌%◌, ◌≤◌}
-use Rattle.std.specs.Prelude.{Bool, true, false, cond, ◌≡◌, eqb, length, get_or, take, drop}
+use Rattle.std.specs.Prelude.{Bool, true, false, cond, Some, None, ◌≡◌, refl, length, get_or, take, drop}
 use Rattle.std.proofs.Common.{sym}
 use mathlib.Core.List.{List, [], ◌∷◌, ◌++◌, append_assoc}
 use native.Mathlib.Omega.{arith}
-use borrow.Author.Tests.{ne_eqb}
 use Rattle.std.proofs.Math.ListN.{length-append}
 use Rattle.std.proofs.Math.Seq.{drop-drop}
 use Rattle.labels.specs.declared.Label.{Label}
@@ -12,7 +11,10 @@ use Rattle.labels.specs.Core.{at, category_of, code_of, has_room, with_pair, lab
 use Rattle.labels.specs.Core.Bytes.{label_of_length, label_bytes_length}
 use Rattle.labels.specs.Core.Insert.{insert_length}
 use Rattle.labels.specs.Le.{le_at}
-use Rattle.label_vectors.specs.Asked.{asked}
+use Rattle.label_vectors.specs.declared.Question.{Question}
+use Rattle.label_vectors.specs.declared.Op.{Op}
+use Rattle.label_vectors.specs.declared.Op.TheVariants.{Ask, Pair, Level}
+use Rattle.label_vectors.specs.Asked.{asked, op_of}
 use Rattle.label_vectors.specs.Text.{put, hex_of, decimal_of}
 use Rattle.label_vectors.specs.Text.Laws.{Puts, puts_then, put_nil, put_append, hex_length, decimal_length}
 use Rattle.label_vectors.specs.Line.{full, pair_text, answer_of, label_at, answer_text, line_text, lines_text}
@@ -34,16 +36,19 @@ pair_length x word e = go (has_room x)
 -- no answer is longer
 pub answer_length : (case : List ℕ) → length (answer_text case) ≤ 130
 unfolding answer_text answer_of
-answer_length case = go (eqb (get_or case 0 0) 9) (eqb (get_or case 0 0) 10) (asked (get_or case 0 0) (le_at 8 case 1) x (label_at case 74) (label_at case 139))
+answer_length case = go (op_of (get_or case 0 0))
   where
-    x : Label
-    x = label_at case 9
+    n : ℕ
+    n = le_at 8 case 1
 
-    go : (a b d : Bool) → length (cond a (pair_text x (le_at 8 case 1)) (cond b (decimal_of (at x (le_at 8 case 1))) (cond d (49 ∷ []) (48 ∷ [])))) ≤ 130
-    go true b d = pair_length x (le_at 8 case 1) (label_of_length (take 65 (drop 9 case)))
-    go false true d = let e = decimal_length 20 (at x (le_at 8 case 1)) in omega arith
-    go false false true = omega arith
-    go false false false = omega arith
+    told : (b : Bool) → length {A = ℕ} (cond b (49 ∷ []) (48 ∷ [])) ≤ 130
+    told true = omega arith
+    told false = omega arith
+
+    go : (op : Op) → length (answer_of op n (label_at case 9) (label_at case 74) (label_at case 139)) ≤ 130
+    go (Ask what) = told (asked what n (label_at case 9) (label_at case 74) (label_at case 139))
+    go Pair = pair_length (label_at case 9) n (label_of_length (take 65 (drop 9 case)))
+    go Level = let e = decimal_length 20 (at (label_at case 9) n) in omega arith
 
 -- 20 digits, a space, the answer, a line feed
 pub line_length : (index : ℕ) (case : List ℕ) → length (line_text index case) ≤ 152
@@ -67,28 +72,43 @@ lines_within count first cases r e = let h = lines_length count first cases in o
 
 -- ---- which text it is, for each way that the program takes
 
-pub pair_full : (x : Label) (word : ℕ) → has_room x ≡ false → pair_text x word ≡ full
-unfolding pair_text
-pair_full x word e = rw e
+module _ (x : Label) (word k l : ℕ) (p : k ≡ category_of word) (q : l ≡ code_of word) where
+  pub pair_full : cond (has_room x) (Some (with_pair k l x)) None ≡ None → pair_text x word ≡ full
+  unfolding pair_text
+  pair_full e = go (has_room x) e
+    where
+      go : (b : Bool) → cond b (Some (with_pair k l x)) None ≡ None → cond b (hex_of (label_bytes (with_pair (category_of word) (code_of word) x))) full ≡ full
+      go true e = cc
+      go false e = refl
 
-pub pair_spelt : (x y : Label) (word k l : ℕ) (spelt : List ℕ) → has_room x ≡ true → k ≡ category_of word → l ≡ code_of word
-    → y ≡ cond (has_room x) (with_pair k l x) x → spelt ≡ label_bytes y → pair_text x word ≡ hex_of spelt
-unfolding pair_text
-pair_spelt x y word k l spelt e p q f g = rw (g, f, e, p, q)
+  pub pair_spelt : (y : Label) (spelt : List ℕ) → cond (has_room x) (Some (with_pair k l x)) None ≡ Some y → spelt ≡ label_bytes y → pair_text x word ≡ hex_of spelt
+  unfolding pair_text
+  pair_spelt y spelt e f = rw (f, ← p, ← q) (go (has_room x) e)
+    where
+      go : (b : Bool) → cond b (Some (with_pair k l x)) None ≡ Some y → cond b (hex_of (label_bytes (with_pair k l x))) full ≡ hex_of (label_bytes y)
+      go true e = cc
+      go false e = cc
 
 module _ (case : List ℕ) (n : ℕ) (x : Label) (p : n ≡ le_at 8 case 1) (q : x ≡ label_at case 9) where
-  pub answer_pair : get_or case 0 0 ≡ 9 → answer_text case ≡ pair_text x n
+  pub answer_pair : op_of (get_or case 0 0) ≡ Pair → answer_text case ≡ pair_text x n
   unfolding answer_text answer_of
   answer_pair e = rw (e, p, q)
 
-  pub answer_level : (level : ℕ) → get_or case 0 0 ≡ 10 → level ≡ at x n → answer_text case ≡ decimal_of level
+  pub answer_level : (level : ℕ) → op_of (get_or case 0 0) ≡ Level → level ≡ at x n → answer_text case ≡ decimal_of level
   unfolding answer_text answer_of
   answer_level level e f = rw (e, f, p, q)
 
-  pub answer_asked : (y z : Label) (b : Bool) → (get_or case 0 0 ≡ 9 → ⊥) → (get_or case 0 0 ≡ 10 → ⊥) → y ≡ label_at case 74 → z ≡ label_at case 139
-      → b ≡ asked (get_or case 0 0) n x y z → answer_text case ≡ cond b (49 ∷ []) (48 ∷ [])
-  unfolding answer_text answer_of
-  answer_asked y z b h i r s f = rw (f, p, q, r, s, ne_eqb (get_or case 0 0) 9 h, ne_eqb (get_or case 0 0) 10 i)
+  module _ (what : Question) (y z : Label) (e : op_of (get_or case 0 0) ≡ Ask what) (r : y ≡ label_at case 74) (s : z ≡ label_at case 139) where
+    pub answer_yes : asked what n x y z ≡ true → answer_text case ≡ 49 ∷ []
+    unfolding answer_text answer_of
+    answer_yes f = rw (e, ← p, ← q, ← r, ← s, f)
+
+    pub answer_no : asked what n x y z ≡ false → answer_text case ≡ 48 ∷ []
+    unfolding answer_text answer_of
+    answer_no f = rw (e, ← p, ← q, ← r, ← s, f)
+
+-- what an answer goes by
+pub ruleset answers = (label_of_length, answer_pair, answer_level, answer_yes, answer_no)
 
 -- ---- what four calls, one after the other, leave and answer: a line
 

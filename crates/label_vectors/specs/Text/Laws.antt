@@ -1,7 +1,7 @@
 -- Laws of text, and some examples of it.
 use Rattle.std.specs.Prelude.{ℕ, zero, suc, ◌+◌, ◌*◌, ◌-◌, ◌/◌, ◌%◌, ◌^◌, ◌<◌, ◌≤◌, Bool, true, false, cond, ◌≡◌, refl, List, [], ◌∷◌, ◌++◌, ltb, length, get_or, set, take, drop}
 use Rattle.std.proofs.Common.{sym, ◌∙◌, add-zero, add-one, arith, lt-ltb, le-ltb, ltb-true, ltb-false, length-append}
-use Rattle.std.proofs.Common.{length-set, take-append-drop, drop_of_length-le, drop-cons, take-suc-set, drop-set-lt}
+use Rattle.std.proofs.Common.{length-set, take-append-drop, drop_of_length-le, drop-cons, drop-drop, take-suc-set, drop-set-lt}
 use Rattle.std.proofs.Math.Nat.{pow-succ', one-le-pow, pow-le-pow_right}
 use Rattle.std.proofs.Math.Seq.{append_snoc}
 use Rattle.io.specs.Digits.{last_digits, IsDigitCount}
@@ -40,14 +40,10 @@ pub puts_then : (out : List ℕ) (at : ℕ) (a b : List ℕ) (mid : List ℕ) (n
 puts_then out at a b mid next left r p q h =
     (simp length-append (omega arith), q.1 ∙ rw (p.0, p.1) (put_append out at a b h))
 
--- a walk that copies: the byte at i is stored, and those behind it are to be put
-pub put_more : (out : List ℕ) (at : ℕ) (text : List ℕ) (i : ℕ) → at < length out → i < length text
-    → put out at (drop i text) ≡ put (set out at (get_or text i 0)) (at + 1) (drop (i + 1) text)
-put_more out at text i h l = rw (drop-cons text i 0 l, add-one i) (put_cons out at (get_or text i 0) (drop (suc i) text) h)
-
--- and where i has come to the end nothing is
-pub put_end : (out : List ℕ) (at : ℕ) (text : List ℕ) (i : ℕ) → length text ≤ i → put out at (drop i text) ≡ out
-put_end out at text i h = rw (drop_of_length-le text h) (put_nil out at)
+-- a part of the buffer that becomes the text
+pub put_part : (out : List ℕ) (at k : ℕ) (part text : List ℕ) → part ≡ text → k ≡ length text → take at out ++ (part ++ drop k (drop at out)) ≡ put out at text
+unfolding put
+put_part out at k part text e f = rw (e, f, drop-drop (length text) at out)
 
 -- ---- hexadecimal
 

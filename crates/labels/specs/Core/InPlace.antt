@@ -1,19 +1,20 @@
--- Labels where they are held: the words that bytes spell, and the label that a handle means.
+-- Labels where they are held: the words that bytes spell, and the label that is meant.
 use Prim.Native.Nat.{ℕ, zero, suc, ◌+◌, ◌-◌, ◌*◌, ◌/◌, ◌<◌, ◌≤◌}
 use Rattle.std.specs.Prelude.{◌≡◌, Bool, true, false, cond, leb, length, take, drop}
 use Rattle.std.proofs.Math.Path.{refl, ap, ap₂}
-use Rattle.std.proofs.Common.{sym, ◌∙◌, add-zero, le-leb, length-drop, length-take-le}
-use mathlib.Core.List.{List, [], ◌∷◌}
+use Rattle.std.proofs.Common.{sym, ◌∙◌, subst, add-zero, le-leb, length-drop, length-take-le, drop-drop}
+use mathlib.Core.List.{List, [], ◌∷◌, ◌++◌}
 use native.Mathlib.Omega.{arith}
 use Rattle.std.proofs.lemmas.Bool.{lt-leb}
 use Rattle.std.proofs.Math.ListN.{get_or}
-use Rattle.std.proofs.Math.Seq.{get_or-take, get_or-drop}
+use Rattle.std.proofs.Math.Seq.{take_all}
 use Rattle.labels.specs.declared.Label.{Label}
-use Rattle.labels.specs.declared.Held.{Held}
-use Rattle.labels.specs.declared.Rule.{Rule}
-use Rattle.labels.specs.Core.{word_count, label_size, level_at, at, allowed, holds_b, compare_b, unread, formed_b, well_formed, words_at, label_of, spelt, held_in}
-use Rattle.labels.specs.Core.Bytes.{words_at_length}
+use Rattle.labels.specs.declared.LabelRef.{LabelRef}
+use Rattle.labels.specs.Core.{word_count, label_size, words_at, words_bytes, label_of, spelt, words_in, held_in, meant}
+use Rattle.labels.specs.Core.Bytes.{words_at_length, words_bytes_words_at, pasted}
+use Rattle.labels.specs.Core.Same.{label_ext}
 use Rattle.labels.specs.Le.{le_at}
+use Rattle.labels.specs.Le.Laws.{Below, le_at_part}
 
 -- word i of n words
 pub words_at_at : (n : ℕ) (b : List ℕ) (from i : ℕ) → i < n → get_or (words_at n b from) i 0 ≡ le_at 8 b (from + i * 8)
@@ -24,23 +25,15 @@ words_at_at (suc n) b from (suc i) h =
     let m : from + 8 + i * 8 ≡ from + suc i * 8 = omega arith in
     words_at_at n b (from + 8) i (omega arith) ∙ ap (le_at 8 b) m
 
--- ---- numbers in a part are those of the whole
+-- ---- words in a part are those of the whole
 
 module _ (m : ℕ) (b : List ℕ) (from : ℕ) where
-  le_at_part : (w p : ℕ) → p + w ≤ m → le_at w (take m (drop from b)) p ≡ le_at w b (from + p)
-  unfolding le_at
-  le_at_part zero p h = refl
-  le_at_part (suc w) p h =
-      let x : get_or (take m (drop from b)) p 0 ≡ get_or b (from + p) 0 = get_or-take m (drop from b) p 0 (omega arith) ∙ get_or-drop from b p 0 in
-      let q : from + (p + 1) ≡ from + p + 1 = omega arith in
-      ap₂ (λ (u v : ℕ). u + 256 * v) x (le_at_part w (p + 1) (omega arith) ∙ ap (le_at w b) q)
-
   words_at_part : (n p : ℕ) → p + n * 8 ≤ m → words_at n (take m (drop from b)) p ≡ words_at n b (from + p)
   unfolding words_at
   words_at_part zero p h = refl
   words_at_part (suc n) p h =
       let q : from + (p + 8) ≡ from + p + 8 = omega arith in
-      ap₂ (λ (u : ℕ) (v : List ℕ). u ∷ v) (le_at_part 8 p (omega arith)) (words_at_part n (p + 8) (omega arith) ∙ ap (words_at n b) q)
+      ap₂ (λ (u : ℕ) (v : List ℕ). u ∷ v) (le_at_part m b from 8 p (omega arith)) (words_at_part n (p + 8) (omega arith) ∙ ap (words_at n b) q)
 
 -- ---- bytes that spell words
 
@@ -55,7 +48,7 @@ spelt_at b i h =
     sym (words_at_at (length b / 8) b 0 i h ∙ ap (le_at 8 b) m)
 
 -- n words in a part
-spelt_part : (n : ℕ) (b : List ℕ) (from : ℕ) → from + n * 8 ≤ length b → spelt (take (n * 8) (drop from b)) ≡ words_at n b from
+pub spelt_part : (n : ℕ) (b : List ℕ) (from : ℕ) → from + n * 8 ≤ length b → spelt (take (n * 8) (drop from b)) ≡ words_at n b from
 unfolding spelt
 spelt_part n b from h =
     let part = take (n * 8) (drop from b) in
@@ -63,83 +56,104 @@ spelt_part n b from h =
     let many : length part / 8 ≡ n = omega arith in
     ap (λ (k : ℕ). words_at k part 0) many ∙ words_at_part (n * 8) b from n 0 (omega arith) ∙ ap (words_at n b) (add-zero from)
 
--- ---- the words of a held label, as a part of the bytes that hold it
+-- ---- the bytes that spell words, written as the words
 
-part_spelt : (b part : List ℕ) (h : Held) → h.from + word_count * 8 ≤ length b → part ≡ take (word_count * 8) (drop h.from b) → spelt part ≡ (held_in b h).words
-unfolding held_in
-part_spelt b part h l e = rw (le-leb (h.from + word_count * 8) (length b) l) (ap spelt e ∙ spelt_part word_count b h.from l)
+-- what stands within bytes is bytes
+below_part : (p q r : List ℕ) → Below 256 (p ++ (q ++ r)) → Below 256 q
+below_part (x ∷ p) q r h i = below_part p q r (λ j. h (suc j)) i
+below_part [] [] r h i = omega arith
+below_part [] (x ∷ q) r h zero = h 0
+below_part [] (x ∷ q) r h (suc i) = below_part [] q r (λ j. h (suc j)) i
 
-past_spelt : (b part : List ℕ) (h : Held) → length b < h.from + word_count * 8 → part ≡ [] → spelt part ≡ (held_in b h).words
-unfolding held_in spelt words_at
-past_spelt b part h l e = rw (lt-leb (h.from + word_count * 8) (length b) l) (ap spelt e)
+spelt_bytes : (b : List ℕ) → Below 256 (take (length b / 8 * 8) b) → words_bytes (spelt b) ≡ take (length b / 8 * 8) b
+unfolding spelt
+spelt_bytes b h =
+    let n = length b / 8 in
+    let part = take (n * 8) b in
+    let long : length part ≡ n * 8 = length-take-le (n * 8) b (omega arith) in
+    let same : words_at n part 0 ≡ words_at n b 0 = words_at_part (n * 8) b 0 n 0 (omega arith) in
+    ap words_bytes (sym same) ∙ words_bytes_words_at n part 0 (omega arith) h ∙ take_all (n * 8) part (omega arith)
 
--- the words, and no byte more than they have
-with_length : (b part : List ℕ) (h : Held) (n : ℕ) → length part ≡ n * 8 → spelt part ≡ (held_in b h).words
-    → (spelt part ≡ (held_in b h).words) × (length part ≡ length (held_in b h).words * 8)
-with_length b part h n f e = (e, omega (arith, f, spelt_length part, ap length e))
+-- the bytes `out` with the first k of the bytes b put in at `from`, where k are those that spell words
+pub put_spelt : (out b part : List ℕ) (from k : ℕ) → part ≡ take (length b / 8 * 8) b → k ≡ length b / 8 * 8 → Below 256 (take from out ++ (part ++ drop k (drop from out)))
+    → take from out ++ (part ++ drop k (drop from out)) ≡ pasted out from (spelt b)
+put_spelt out b part from k e ek h =
+    let bytes = spelt_bytes b (subst (Below 256) e (below_part (take from out) part (drop k (drop from out)) h)) in
+    let many : length (spelt b) * 8 ≡ length b / 8 * 8 = omega (arith, spelt_length b) in
+    ap₂ (λ (u v : List ℕ). take from out ++ (u ++ v)) (e ∙ sym bytes) (drop-drop k from out ∙ ap (λ (m : ℕ). drop (from + m) out) (ek ∙ sym many))
 
-pub held_part : (b part : List ℕ) (h : Held) → h.from + word_count * 8 ≤ length b → part ≡ take (h.from + word_count * 8 - h.from) (drop h.from b)
-    → (spelt part ≡ (held_in b h).words) × (length part ≡ length (held_in b h).words * 8)
-held_part b part h l e =
-    let m : h.from + word_count * 8 - h.from ≡ word_count * 8 = omega arith in
-    let whole : part ≡ take (word_count * 8) (drop h.from b) = e ∙ ap (λ (n : ℕ). take n (drop h.from b)) m in
-    let long : length (take (word_count * 8) (drop h.from b)) ≡ word_count * 8 = length-take-le (word_count * 8) (drop h.from b) (simp length-drop (omega arith)) in
-    with_length b part h word_count (ap length whole ∙ long) (part_spelt b part h l whole)
+-- ---- the words that stand at a place, as a part of the bytes
 
-pub held_past : (b part : List ℕ) (h : Held) → length b < h.from + word_count * 8 → part ≡ []
-    → (spelt part ≡ (held_in b h).words) × (length part ≡ length (held_in b h).words * 8)
-held_past b part h l e = with_length b part h 0 (ap length e) (past_spelt b part h l e)
+module _ (b part : List ℕ) (from : ℕ) where
+  -- the words, and no byte more than they have
+  with_length : (n : ℕ) → length part ≡ n * 8 → spelt part ≡ words_in b from → (spelt part ≡ words_in b from) × (length part ≡ length (words_in b from) * 8)
+  with_length n f e = (e, omega (arith, f, spelt_length part, ap length e))
+
+  pub held_part : from + word_count * 8 ≤ length b → part ≡ take (from + word_count * 8 - from) (drop from b)
+      → (spelt part ≡ words_in b from) × (length part ≡ length (words_in b from) * 8)
+  unfolding words_in
+  held_part l e =
+      let m : from + word_count * 8 - from ≡ word_count * 8 = omega arith in
+      let whole : part ≡ take (word_count * 8) (drop from b) = e ∙ ap (λ (n : ℕ). take n (drop from b)) m in
+      let long : length (take (word_count * 8) (drop from b)) ≡ word_count * 8 = length-take-le (word_count * 8) (drop from b) (simp length-drop (omega arith)) in
+      with_length word_count (ap length whole ∙ long) (rw (le-leb (from + word_count * 8) (length b) l) (ap spelt whole ∙ spelt_part word_count b from l))
+
+  pub held_past : length b < from + word_count * 8 → part ≡ [] → (spelt part ≡ words_in b from) × (length part ≡ length (words_in b from) * 8)
+  unfolding words_in spelt words_at
+  held_past l e = with_length 0 (ap length e) (rw (lt-leb (from + word_count * 8) (length b) l) (ap spelt e))
 
 -- at most as many as a label has
-pub held_most : (b : List ℕ) (h : Held) → length (held_in b h).words ≤ word_count
-unfolding held_in
-held_most b h = go (leb (h.from + word_count * 8) (length b))
+pub held_most : (b : List ℕ) (d from : ℕ) → length (held_in b d from).words ≤ word_count
+unfolding held_in words_in
+held_most b d from = go (leb (from + word_count * 8) (length b))
   where
-    go : (t : Bool) → length (cond t (words_at word_count b h.from) []) ≤ word_count
-    go true = omega (arith, words_at_length word_count b h.from)
+    go : (t : Bool) → length (cond t (words_at word_count b from) []) ≤ word_count
+    go true = omega (arith, words_at_length word_count b from)
     go false = omega arith
 
--- the default is the handle's own
-pub held_default : (b : List ℕ) (h : Held) → (held_in b h).default ≡ h.default
+pub held_default : (b : List ℕ) (d from : ℕ) → (held_in b d from).default ≡ d
 unfolding held_in
-held_default b h = refl
+held_default b d from = refl
 
--- ---- what is said of the default and of these words is said of the label
+-- ---- the label that is meant
 
-module _ (b : List ℕ) (h : Held) (p : List ℕ) (e : spelt p ≡ (held_in b h).words) where
-  pub held_level : (c : ℕ) → level_at h.default (spelt p) c ≡ at (held_in b h) c
-  unfolding held_in
-  held_level c = ap (λ (u : List ℕ). level_at h.default u c) e
+module _ (l : LabelRef) where
+  pub meant_default : (meant l).default ≡ l.default
+  unfolding meant
+  meant_default = refl
 
-  pub held_formed : (bound : ℕ) (starred : Bool) → formed_b bound starred h.default (spelt p) ≡ well_formed bound starred (held_in b h)
-  unfolding held_in
-  held_formed bound starred = ap (formed_b bound starred h.default) e
+  pub meant_words : (meant l).words ≡ spelt l.words.now
+  unfolding meant
+  meant_words = refl
 
-module _ (rule : Rule) (a : List ℕ) (x : Held) (b : List ℕ) (y : Held) (p q : List ℕ) (ep : spelt p ≡ (held_in a x).words) (eq : spelt q ≡ (held_in b y).words) where
-  pub held_three : (c : List ℕ) (z : Held) (r : List ℕ) → spelt r ≡ (held_in c z).words
-      → holds_b (allowed rule) x.default (spelt p) y.default (spelt q) z.default (spelt r) ≡ compare_b rule (held_in a x) (held_in b y) (held_in c z)
-  unfolding compare_b held_in
-  held_three c z r er =
-      ap₂ (λ (u v : List ℕ). holds_b (allowed rule) x.default u y.default v z.default (spelt r)) ep eq
-      ∙ ap (λ (u : List ℕ). holds_b (allowed rule) x.default (held_in a x).words y.default (held_in b y).words z.default u) er
+  -- as many words as there are bytes for
+  pub meant_length : length (meant l).words ≡ length l.words.now / 8
+  unfolding meant
+  meant_length = spelt_length l.words.now
 
-  pub held_two : holds_b (allowed rule) x.default (spelt p) y.default (spelt q) 0 (spelt []) ≡ compare_b rule (held_in a x) (held_in b y) unread
-  unfolding compare_b held_in spelt words_at
-  held_two = ap₂ (λ (u v : List ℕ). holds_b (allowed rule) x.default u y.default v 0 []) ep eq
+  -- where these are as many as a label has
+  pub meant_value : length (meant l).words ≡ word_count → record { default = l.default; words = words_at word_count l.words.now 0 } ≡ meant l
+  unfolding meant spelt
+  meant_value h = label_ext _ _ refl (ap (λ (n : ℕ). words_at n l.words.now 0) (sym (sym meant_length ∙ h)))
 
--- ---- the label that a handle means, from its default and its words
+  -- by its default and its words,
+  pub meant_is : (d : ℕ) (ws : List ℕ) → l.default ≡ d → spelt l.words.now ≡ ws → meant l ≡ record { default = d; words = ws }
+  unfolding meant
+  meant_is d ws ed ew = label_ext _ _ ed ew
+
+  -- or by where these stand
+  pub meant_held : (b : List ℕ) (d from : ℕ) → l.default ≡ d → spelt l.words.now ≡ words_in b from → meant l ≡ held_in b d from
+  unfolding meant held_in
+  meant_held b d from ed ew = label_ext _ _ ed ew
+
+-- ---- the label that is held, from its default and its words
 
 -- wherever they lie within the bytes
-pub held_inside : (b : List ℕ) (d p : ℕ) (l : Label) → p + word_count * 8 ≤ length b → d ≡ l.default → words_at word_count b p ≡ l.words
-    → held_in b (record { default = d; from = p }) ≡ l
-unfolding held_in
-held_inside b d p l h ed ew =
-    rw (le-leb (p + word_count * 8) (length b) h) (ap₂ of ed ew)
-  where
-    of : ℕ → List ℕ → Label
-    of u ws = record { default = u; words = ws }
+pub held_inside : (b : List ℕ) (d p : ℕ) (l : Label) → p + word_count * 8 ≤ length b → d ≡ l.default → words_at word_count b p ≡ l.words → held_in b d p ≡ l
+unfolding held_in words_in
+held_inside b d p l h ed ew = label_ext _ _ ed (rw (le-leb (p + word_count * 8) (length b) h) ew)
 
 -- in bytes of its own
-pub held_own : (b : List ℕ) (d : ℕ) → length b ≡ label_size → d ≡ get_or b 0 0 → held_in b (record { default = d; from = 1 }) ≡ label_of b
+pub held_own : (b : List ℕ) (d : ℕ) → length b ≡ label_size → d ≡ get_or b 0 0 → held_in b d 1 ≡ label_of b
 unfolding label_of
 held_own b d e f = held_inside b d 1 (label_of b) (omega arith) f refl

@@ -1,24 +1,17 @@
-use mathlib.Core.Path.{refl, sym, ◌∙◌}
+use mathlib.Core.Path.{◌≡◌, sym, ◌∙◌}
 use native.Mathlib.Omega.{arith}
-use native.Mathlib.Nat.{sub-zero}
+use Prim.Native.Nat.{◌+◌, ◌*◌}
 use lib.ListN.{length-set}
 use Rattle.labels.specs.Core.Bytes.{read_more, read_end}
 use Rattle.labels.proofs.bytes.get_words.Goals as goal
 
-pub loop-i-init : goal.loop-i-init
-loop-i-init c = (omega arith, refl, omega arith, rw sub-zero)
-
 pub loop-i-preserved : goal.loop-i-preserved
 loop-i-preserved c =
-    let l = c.loop-i in (
-      simp length-set (omega arith),
-      simp length-set l.invariant.1,
-      omega arith,
-      rw c.get_u64.ensures (l.invariant.3 ∙ read_more _ _ l.words l.i l.place (omega arith) l.invariant.1),
+    let l = c.loop-i in
+    let place : c.args.from + (l.i + 1) * 8 ≡ c.args.from + l.i * 8 + 8 = omega arith in (
+      simp length-set l.invariant.0,
+      rw (c.get.ensures, place) (l.invariant.1 ∙ read_more _ _ l.words l.i _ (omega arith) l.invariant.0),
     )
 
-pub shape_of-words : goal.shape_of-words
-shape_of-words c = c.loop-i.invariant.1
-
 pub returns : goal.returns
-returns c = let l = c.loop-i in sym (l.invariant.3 ∙ read_end _ _ l.words l.i l.place (omega arith) l.invariant.1)
+returns c = let l = c.loop-i in sym (l.invariant.1 ∙ read_end _ _ l.words l.i _ (omega arith) l.invariant.0)

@@ -1,4 +1,4 @@
-use Prim.Native.Nat.{◌+◌, ◌*◌, ◌-◌, ◌≤◌}
+use Prim.Native.Nat.{◌+◌, ◌*◌, ◌-◌}
 use mathlib.Core.Path.{◌≡◌}
 use mathlib.Core.List.{◌++◌}
 use lib.ListN.{length, take}
@@ -7,8 +7,5 @@ use Rattle.labels.proofs.bytes.get_words.Given as goal
 
 abbrev pub invariant-loop-i : goal.invariant-loop-i
 invariant-loop-i l =
-    (l.i ≤ length l.words) × (length l.words ≡ length l.initial.words) × (l.place ≡ l.from + l.i * 8)
-    × (words_at (length l.initial.words) l.b l.from ≡ take l.i l.words ++ words_at (length l.initial.words - l.i) l.b l.place)
-
-abbrev pub decreases-loop-i : goal.decreases-loop-i
-decreases-loop-i l = length l.initial.words - l.i
+    (length l.words ≡ length l.initial.words)
+    × (words_at (length l.initial.words) l.b l.from ≡ take l.i l.words ++ words_at (length l.initial.words - l.i) l.b (l.from + l.i * 8))

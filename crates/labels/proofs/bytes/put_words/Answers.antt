@@ -1,22 +1,16 @@
-use mathlib.Core.Path.{refl, sym, ◌∙◌}
+use mathlib.Core.Path.{◌≡◌, sym, ◌∙◌}
 use native.Mathlib.Omega.{arith}
+use Prim.Native.Nat.{◌+◌, ◌*◌}
 use Rattle.labels.specs.Core.Bytes.{write_more, write_end}
 use Rattle.labels.proofs.bytes.put_words.Goals as goal
 
-pub loop-i-init : goal.loop-i-init
-loop-i-init c = (omega arith, refl, omega arith, refl)
-
 pub loop-i-preserved : goal.loop-i-preserved
 loop-i-preserved c =
-    let l = c.loop-i in (
+    let l = c.loop-i in
+    let place : c.args.from + (l.i + 1) * 8 ≡ c.args.from + l.i * 8 + 8 = omega arith in (
       omega arith,
-      omega arith,
-      omega arith,
-      rw c.put_u64.ensures (l.invariant.3 ∙ write_more l.out l.place _ l.i (omega arith) (omega arith)),
+      rw (c.put.ensures.0, place) (l.invariant.1 ∙ write_more l.out _ _ l.i (omega arith) (omega arith)),
     )
 
-pub shape_of-out : goal.shape_of-out
-shape_of-out c = c.loop-i.invariant.1
-
 pub returns : goal.returns
-returns c = let l = c.loop-i in sym (l.invariant.3 ∙ write_end l.out l.place _ l.i (omega arith))
+returns c = let l = c.loop-i in sym (l.invariant.1 ∙ write_end l.out _ _ l.i (omega arith))

@@ -1,4 +1,4 @@
-use Prim.Native.Nat.{◌+◌, ◌*◌, ◌-◌, ◌≤◌}
+use Prim.Native.Nat.{◌+◌, ◌*◌}
 use mathlib.Core.Path.{◌≡◌}
 use lib.ListN.{length, drop}
 use Rattle.labels.specs.Core.Bytes.{pasted}
@@ -6,7 +6,4 @@ use Rattle.labels.proofs.bytes.put_words.Given as goal
 
 abbrev pub invariant-loop-i : goal.invariant-loop-i
 invariant-loop-i l =
-    (l.i ≤ length l.words) × (length l.out ≡ length l.initial.out) × (l.place ≡ l.from + l.i * 8) × (pasted l.initial.out l.from l.words ≡ pasted l.out l.place (drop l.i l.words))
-
-abbrev pub decreases-loop-i : goal.decreases-loop-i
-decreases-loop-i l = length l.words - l.i
+    (length l.out ≡ length l.initial.out) × (pasted l.initial.out l.from l.words ≡ pasted l.out (l.from + l.i * 8) (drop l.i l.words))

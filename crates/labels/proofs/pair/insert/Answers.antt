@@ -1,29 +1,23 @@
-use mathlib.Core.Path.{refl, sym, ◌∙◌}
+use mathlib.Core.Path.{sym, ◌∙◌}
 use native.Mathlib.Omega.{arith}
 use lib.ListN.{length-set}
+use Rattle.std.proofs.lemmas.List.{set-get_or}
 use Rattle.labels.specs.Core.Insert.{insert_put, insert_pass, insert_end}
 use Rattle.labels.proofs.pair.insert.Goals as goal
 use Rattle.labels.proofs.pair.insert.Goals.{then-goes, else-goes}
 
-pub loop-i-init : goal.loop-i-init
-loop-i-init c = (omega arith, refl, refl)
-
-pub loop-i-preserved : goal.loop-i-preserved
-loop-i-preserved c =
-    let l = c.loop-i in
+pub loop-x-preserved : goal.loop-x-preserved
+loop-x-preserved c =
+    let l = c.loop-x in
     let g = c.goes in
     elim c.if-goes.branch [
       | then-goes w ↦
-          rw (w.words-is, w.carry-is) (
-            simp length-set (omega arith),
-            simp length-set l.invariant.1,
-            l.invariant.2 ∙ insert_put l.carry l.words l.i (omega arith) (sym g.ensures ∙ w.if-goes.true),
-          )
-      | else-goes w ↦ rw (w.words-is, w.carry-is) (omega arith, l.invariant.1, l.invariant.2 ∙ insert_pass l.carry l.words l.i (omega arith) (sym g.ensures ∙ w.if-goes.false))
+          rw (w.x-items-is, w.carry-is, w.swap.ensures.x_after, w.swap.ensures.y_after)
+          (simp length-set l.invariant.0, l.invariant.1 ∙ insert_put l.carry l.x-items l.x-index (omega arith) (sym g.ensures ∙ w.if-goes.true))
+      | else-goes w ↦
+          rw (w.x-items-is, w.carry-is, set-get_or)
+          (l.invariant.0, l.invariant.1 ∙ insert_pass l.carry l.x-items l.x-index (omega arith) (sym g.ensures ∙ w.if-goes.false))
     ]
 
-pub shape_of-words : goal.shape_of-words
-shape_of-words c = c.loop-i.invariant.1
-
 pub returns : goal.returns
-returns c = let l = c.loop-i in sym (l.invariant.2 ∙ insert_end l.carry l.words l.i (omega arith))
+returns c = let l = c.loop-x in sym (l.invariant.1 ∙ insert_end l.carry l.x-items l.x-index (omega arith))
