@@ -2,15 +2,14 @@
 // book as a record of tables, `view`, and never of bytes.
 #![tactic(auto)]
 
-ghost use Rattle.std.specs.Prelude.{◌≡◌, ◌+◌, ◌*◌, ◌<◌, ◌≤◌, length, get_or, take, drop, eqb};
-ghost use Rattle.labels.specs.Core.{word_count, words_at};
-ghost use Rattle.tables.specs.Layout.{table_count, base, size, view, tab_of, put_t, run_t, empty, Slot, Run};
+ghost use Rattle.std.specs.Prelude.{◌≡◌, ℕ, ◌+◌, ◌*◌, ◌<◌, ◌≤◌, ◌≢◌, length, get_or, take, drop, MatchOption};
+ghost use Rattle.std.specs.Borrow.{sem, Lends, Array, u8};
+ghost use Rattle.labels.specs.Core.{word_count, spelt};
+ghost use Rattle.tables.specs.Layout.{table_count, w_of, n_of, base, size, view, tab_of, put_t, run_t, empty, Slot, Run};
 
-use bytes::{get_u8, get_u16, put_u8, put_u16};
 use labels::WORDS;
-use labels::bytes::{get_u64, put_u64};
-
-mod bytes; // bytes.rt: numbers of one and of two bytes
+use labels::number::Number;
+use std::marker::PhantomData;
 
 // ---- how many of each
 
@@ -20,97 +19,152 @@ pub const LINKS: usize = 255;
 
 pub const BLOCKS: usize = 256;
 
+// A row is a byte, and so is a block: there is no row or block that a byte does not name.
+pub type Row = u8;
+
+pub type Block = u8;
+
 // The bytes of a description, and of a gate's closure.
 pub const TEXT_SIZE: usize = 32;
+
+// ---- a table
+
+// What a table is asked by: a row, a block, or a number.
+pub trait Place: Copy {
+    ghost place: { Self → ℕ };
+
+    fn place(self) -> usize
+        ensures { result ≡ place self };
+}
+
+impl Place for u8 {
+    ghost place = { λ x. x };
+
+    fn place(self) -> usize {
+        usize::from(self)
+    }
+}
+
+impl Place for usize {
+    ghost place = { λ x. x };
+
+    fn place(self) -> usize {
+        self
+    }
+}
+
+// A table, by its number: what it is asked by, and what its numbers are.
+#[derive(Clone, Copy)]
+pub struct Table<I, N> {
+    number: usize,
+    by: PhantomData<I>,
+    of: PhantomData<N>,
+}
+
+macro_rules! table {
+    ($number:literal) => {
+        Table {
+            number: $number,
+            by: PhantomData,
+            of: PhantomData,
+        }
+    };
+}
 
 // ---- the tables: the number of each, and where it starts, past the one before it
 
 // The next number to be issued, and the root's id.
-pub const NEXT: usize = 0;
+pub const NEXT: Table<usize, u64> = table!(0);
 
 const NEXT_BASE: usize = 0;
 
-pub const ROOT: usize = 1;
+pub const ROOT: Table<usize, u64> = table!(1);
 
 const ROOT_BASE: usize = NEXT_BASE + 8;
 
 // One number for each row.
-pub const ID: usize = 2;
+pub const ID: Table<Row, u64> = table!(2);
 
 const ID_BASE: usize = ROOT_BASE + 8;
 
-pub const KIND: usize = 3;
+pub const KIND: Table<Row, u8> = table!(3);
 
 const KIND_BASE: usize = ID_BASE + 8 * ROWS;
 
-pub const MASK: usize = 4;
+pub const MASK: Table<Row, u8> = table!(4);
 
 const MASK_BASE: usize = KIND_BASE + ROWS;
 
-pub const FIXED: usize = 5;
+pub const FIXED: Table<Row, u8> = table!(5);
 
 const FIXED_BASE: usize = MASK_BASE + ROWS;
 
-pub const QUOTA: usize = 6;
+pub const QUOTA: Table<Row, u16> = table!(6);
 
 const QUOTA_BASE: usize = FIXED_BASE + ROWS;
 
-pub const LEN: usize = 7;
+pub const LEN: Table<Row, u16> = table!(7);
 
 const LEN_BASE: usize = QUOTA_BASE + 2 * ROWS;
 
-pub const ENTRY: usize = 8;
+pub const ENTRY: Table<Row, u64> = table!(8);
 
 const ENTRY_BASE: usize = LEN_BASE + 2 * ROWS;
 
 // A row's label and clearance: one default, and WORDS words.
-pub const LABEL_DEFAULT: usize = 9;
+pub const LABEL_DEFAULT: Table<Row, u8> = table!(9);
 
 const LABEL_DEFAULT_BASE: usize = ENTRY_BASE + 8 * ROWS;
 
-pub const LABEL_WORDS: usize = 10;
+pub const LABEL_WORDS: Table<usize, u64> = table!(10);
 
 const LABEL_WORDS_BASE: usize = LABEL_DEFAULT_BASE + ROWS;
 
-pub const CLEAR_DEFAULT: usize = 11;
+pub const CLEAR_DEFAULT: Table<Row, u8> = table!(11);
 
 const CLEAR_DEFAULT_BASE: usize = LABEL_WORDS_BASE + 8 * ROWS * WORDS;
 
-pub const CLEAR_WORDS: usize = 12;
+pub const CLEAR_WORDS: Table<usize, u64> = table!(12);
 
 const CLEAR_WORDS_BASE: usize = CLEAR_DEFAULT_BASE + ROWS;
 
 // A row's texts: TEXT_SIZE bytes each.
-pub const DESCRIPTION: usize = 13;
+pub const DESCRIPTION: Table<usize, u8> = table!(13);
 
 const DESCRIPTION_BASE: usize = CLEAR_WORDS_BASE + 8 * ROWS * WORDS;
 
-pub const CLOSURE: usize = 14;
+pub const CLOSURE: Table<usize, u8> = table!(14);
 
 const CLOSURE_BASE: usize = DESCRIPTION_BASE + ROWS * TEXT_SIZE;
 
 // Of a link: the container's row plus 1, or 0 where the link is free; the object's row.
-pub const LINK_FROM: usize = 15;
+pub const LINK_FROM: Table<usize, u16> = table!(15);
 
 const LINK_FROM_BASE: usize = CLOSURE_BASE + ROWS * TEXT_SIZE;
 
-pub const LINK_TO: usize = 16;
+pub const LINK_TO: Table<usize, u16> = table!(16);
 
 const LINK_TO_BASE: usize = LINK_FROM_BASE + 2 * LINKS;
 
 // Of a block: the segment's row plus 1, or 0 where the block is free; which of the segment's blocks it is.
-pub const OWNER: usize = 17;
+pub const OWNER: Table<Block, u16> = table!(17);
 
 const OWNER_BASE: usize = LINK_TO_BASE + 2 * LINKS;
 
-pub const INDEX: usize = 18;
+pub const INDEX: Table<Block, u8> = table!(18);
 
 const INDEX_BASE: usize = OWNER_BASE + 2 * BLOCKS;
 
 // The length of a book.
 pub const BOOK_LEN: usize = INDEX_BASE + BLOCKS;
 
-const BASES: [usize; INDEX + 1] = [
+// A book's bytes.
+pub type Book = [u8; BOOK_LEN];
+
+// How many tables there are.
+const TABLES: usize = 19;
+
+const BASES: [usize; TABLES] = [
     NEXT_BASE,
     ROOT_BASE,
     ID_BASE,
@@ -139,149 +193,108 @@ fn base_of(t: usize) -> usize
     BASES[t]
 }
 
-// Whether these are as many bytes as a book has.
-pub fn is_whole(b: &[u8]) -> bool
-    ensures { result ≡ eqb (length b.now) size }
+// Where number i of table t begins, each taking w bytes; the number past the last begins where the table ends.
+fn place_of(t: usize, i: usize, w: usize) -> usize
+    requires { (t < table_count) × (w_of t ≡ w) × (i ≤ n_of t) }
+    ensures { (result ≡ base t + i * w) × (result ≤ size) × (i < n_of t → result + w ≤ size) }
 {
-    b.len() == BOOK_LEN
+    base_of(t) + i * w
+}
+
+// The book that the bytes are, if they are as many as a book has.
+pub fn book_in(b: &[u8]) -> Option<&Book>
+    ensures { MatchOption result (length b.now ≢ size) (λ w. (length b.now ≡ size) × (w.now ≡ b.now)) }
+{
+    b.as_array()
+}
+
+// The same bytes as a book that is written.
+pub fn book_in_mut(b: &mut [u8]) -> &mut Book
+    requires { length b.old ≡ size }
+    ensures* writes_back { sem 𝓛 (Lends (Array u8 0) (Array u8 0) b.entry result (λ w. w)) }
+    ensures value { result.now ≡ b.old }
+{
+    let Some(w) = b.as_mut_array() else {
+        unreachable!()
+    };
+    w
 }
 
 // ---- one number
 
-// Number i of table t, for a table of bytes.
-pub fn get8(b: &[u8], t: usize, i: usize) -> u8
-    requires { Slot b.now t 1 i }
-    ensures { result ≡ get_or (tab_of (view b.now) t) i 0 }
-{
-    get_u8(b, base_of(t) + i)
-}
+impl<I: Place, N: Number> Table<I, N> {
+    // The table's number at i.
+    pub fn get(self, b: &Book, i: I) -> N
+        requires { Slot b.now self.number N.WIDTH (I.place i) }
+        ensures { N.value result ≡ get_or (tab_of (view b.now) self.number) (I.place i) 0 }
+    {
+        N::get(b, place_of(self.number, i.place(), N::WIDTH))
+    }
 
-pub fn get16(b: &[u8], t: usize, i: usize) -> u16
-    requires { Slot b.now t 2 i }
-    ensures { result ≡ get_or (tab_of (view b.now) t) i 0 }
-{
-    get_u16(b, base_of(t) + i * 2)
-}
-
-pub fn get64(b: &[u8], t: usize, i: usize) -> u64
-    requires { Slot b.now t 8 i }
-    ensures { result ≡ get_or (tab_of (view b.now) t) i 0 }
-{
-    get_u64(b, base_of(t) + i * 8)
+    // Makes v the table's number at i.
+    pub fn put(self, b: &mut Book, i: I, v: N)
+        requires { Slot b.old self.number N.WIDTH (I.place i) }
+        ensures { view b.new ≡ put_t self.number (I.place i) (N.value v) (view b.old) }
+    {
+        v.put(b, place_of(self.number, i.place(), N::WIDTH));
+    }
 }
 
 // The next number to be issued.
-pub fn next(b: &[u8]) -> u64
-    requires { length b.now ≡ size }
+pub fn next(b: &Book) -> u64
     ensures { result ≡ get_or (view b.now).next 0 0 }
 {
-    get64(b, NEXT, 0)
+    NEXT.get(b, 0)
 }
 
 // The root's id.
-pub fn root(b: &[u8]) -> u64
-    requires { length b.now ≡ size }
+pub fn root(b: &Book) -> u64
     ensures { result ≡ get_or (view b.now).root 0 0 }
 {
-    get64(b, ROOT, 0)
-}
-
-// Makes v number i of table t.
-pub fn put8(b: &mut [u8], t: usize, i: usize, v: u8)
-    requires { Slot b.old t 1 i }
-    ensures { view b.new ≡ put_t t i v (view b.old) }
-{
-    put_u8(b, base_of(t) + i, v);
-}
-
-pub fn put16(b: &mut [u8], t: usize, i: usize, v: u16)
-    requires { Slot b.old t 2 i }
-    ensures { view b.new ≡ put_t t i v (view b.old) }
-{
-    put_u16(b, base_of(t) + i * 2, v);
-}
-
-pub fn put64(b: &mut [u8], t: usize, i: usize, v: u64)
-    requires { Slot b.old t 8 i }
-    ensures { view b.new ≡ put_t t i v (view b.old) }
-{
-    put_u64(b, base_of(t) + i * 8, v);
+    ROOT.get(b, 0)
 }
 
 // ---- numbers in a row
 
-// Fills `out` with the numbers of table t from number i on.
-pub fn get_run8(b: &[u8], t: usize, i: usize, out: &mut [u8])
-    requires { Run b.now t 1 i (length out.old) }
-    ensures { out.new ≡ take (length out.old) (drop i (tab_of (view b.now) t)) }
-{
-    let mut j: usize = 0;
-    while j < out.len() {
-        out[j] = get8(b, t, i + j);
-        j += 1;
+impl Table<usize, u8> {
+    // The bytes of the book that are n numbers of the table, from number i on.
+    pub fn run(self, b: &Book, i: usize, n: usize) -> &[u8]
+        requires { Run b.now self.number 1 i n }
+        ensures { (result.now ≡ take n (drop i (tab_of (view b.now) self.number))) × (length result.now ≡ n) }
+    {
+        let from = place_of(self.number, i, 1);
+        &b[from..from + n]
     }
 }
 
-pub fn get_run64(b: &[u8], t: usize, i: usize, out: &mut [u64])
-    requires { Run b.now t 8 i (length out.old) }
-    ensures { out.new ≡ take (length out.old) (drop i (tab_of (view b.now) t)) }
-{
-    let mut j: usize = 0;
-    while j < out.len() {
-        out[j] = get64(b, t, i + j);
-        j += 1;
+impl Table<usize, u64> {
+    // The bytes of the book that spell as many numbers as a label has words.
+    pub fn words(self, b: &Book, i: usize) -> &[u8]
+        requires { Run b.now self.number 8 i word_count }
+        ensures { (spelt result.now ≡ take word_count (drop i (tab_of (view b.now) self.number))) × (length result.now ≡ word_count * 8) }
+    {
+        let from = place_of(self.number, i, 8);
+        &b[from..from + WORDS * 8]
     }
 }
 
-// As many numbers as a label has words.
-pub fn get_words(b: &[u8], t: usize, i: usize) -> [u64; WORDS]
-    requires { Run b.now t 8 i word_count }
-    ensures { result ≡ take word_count (drop i (tab_of (view b.now) t)) }
-{
-    let mut words = [0u64; WORDS];
-    get_run64(b, t, i, &mut words);
-    words
-}
-
-// Where those numbers begin in the book's bytes.
-pub fn words_from(b: &[u8], t: usize, i: usize) -> usize
-    requires { Run b.now t 8 i word_count }
-    ensures { (result + word_count * 8 ≤ length b.now) × (words_at word_count b.now result ≡ take word_count (drop i (tab_of (view b.now) t))) }
-{
-    base_of(t) + i * 8
-}
-
-// Puts the numbers of `s` into table t, from number i on.
-pub fn put_run8(b: &mut [u8], t: usize, i: usize, s: &[u8])
-    requires { Run b.old t 1 i (length s.now) }
-    ensures { view b.new ≡ run_t t i s.now (view b.old) }
-{
-    let mut j: usize = 0;
-    while j < s.len() {
-        put8(b, t, i + j, s[j]);
-        j += 1;
+impl<N: Number> Table<usize, N> {
+    // Puts the numbers of `s` into the table, from number i on.
+    pub fn put_run(self, b: &mut Book, i: usize, s: &[N])
+        requires { Run b.old self.number N.WIDTH i (length s.now) }
+        ensures { view b.new ≡ run_t self.number i (N.values s.now) (view b.old) }
+    {
+        for j in 0..s.len() {
+            self.put(b, i + j, s[j]);
+        }
     }
 }
 
-pub fn put_run64(b: &mut [u8], t: usize, i: usize, s: &[u64])
-    requires { Run b.old t 8 i (length s.now) }
-    ensures { view b.new ≡ run_t t i s.now (view b.old) }
-{
-    let mut j: usize = 0;
-    while j < s.len() {
-        put64(b, t, i + j, s[j]);
-        j += 1;
-    }
-}
+// ---- the whole
 
 // Makes every byte 0.
-pub fn clear(b: &mut [u8])
-    requires { length b.old ≡ size }
+pub fn clear(b: &mut Book)
     ensures { view b.new ≡ empty }
 {
-    let mut i: usize = 0;
-    while i < b.len() {
-        b[i] = 0;
-        i += 1;
-    }
+    *b = [0; BOOK_LEN];
 }

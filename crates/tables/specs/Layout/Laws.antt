@@ -166,11 +166,14 @@ module _ (t i v : ℕ) (b : List ℕ) (h : i < n_of t) (l : v < 256 ^ w_of t) (f
 
 -- ---- a slot
 
--- its bytes are the book's
-pub slot_room : (b : List ℕ) (t w i : ℕ) → Slot b t w i → base t + i * w + w ≤ size
-slot_room b t w i s =
-    subst (λ (x : ℕ). base t + i * x + x ≤ size) s.wide
-    (omega (arith, within i (n_of t) (w_of t) s.place, base_le t table_count s.table))
+-- where a number begins is within the book, and so are its bytes
+pub place_room : (t w i : ℕ) → t < table_count → w_of t ≡ w → i ≤ n_of t → base t + i * w ≤ size
+place_room t w i h e l =
+    subst (λ (x : ℕ). base t + i * x ≤ size) e (omega (arith, mul-le-mul_right {m = i} {n = n_of t} (w_of t) l, base_le t table_count h))
+
+pub place_reach : (t w i : ℕ) → t < table_count → w_of t ≡ w → i < n_of t → base t + i * w + w ≤ size
+place_reach t w i h e l =
+    subst (λ (x : ℕ). base t + i * x + x ≤ size) e (omega (arith, within i (n_of t) (w_of t) l, base_le t table_count h))
 
 -- what is written at its place, and what is read there
 pub slot_put : (b : List ℕ) (t w i v from : ℕ) → Slot b t w i → v < 256 ^ w → from ≡ base t + i * w → view (le_set w b from v) ≡ put_t t i v (view b)

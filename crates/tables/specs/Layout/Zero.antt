@@ -1,5 +1,5 @@
 -- A book of zeros.
-use Rattle.std.specs.Prelude.{◌≡◌, get_or}
+use Rattle.std.specs.Prelude.{◌≡◌, get_or, replicate}
 use Rattle.std.proofs.Math.Path.{refl, ap₂}
 use Prim.Native.Nat.{ℕ, zero, suc, ◌+◌}
 use Rattle.std.proofs.Common.{arith}
@@ -26,3 +26,12 @@ module _ (b : List ℕ) (h : (k : ℕ) → get_or b k 0 ≡ 0) where
   pub view_zero : view b ≡ empty
   unfolding view empty
   view_zero = tabs_same (tab b) (λ t. zeros (n_of t)) (λ t q. tab_zero t)
+
+-- bytes that are all zeros
+pub zeros_empty : (n : ℕ) → view (replicate n 0) ≡ empty
+zeros_empty n = view_zero (replicate n 0) (at n)
+  where
+    at : (n k : ℕ) → ◌≡◌ {A = ℕ} (get_or (replicate n 0) k 0) 0
+    at zero k = refl
+    at (suc n) zero = refl
+    at (suc n) (suc k) = at n k
