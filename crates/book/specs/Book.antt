@@ -1,5 +1,5 @@
 -- What the tables of a book and the data area mean: which world they spell. docs/BOOK.md has the tables byte by byte.
-use Rattle.std.specs.Prelude.{ℕ, zero, suc, ◌+◌, ◌*◌, ◌-◌, ◌/◌, ◌%◌, ◌≤◌, Bool, false, not, cond, List, [], ◌∷◌, get_or, take, drop, eqb, leb}
+use Rattle.std.specs.Prelude.{ℕ, zero, suc, ◌+◌, ◌*◌, ◌-◌, ◌/◌, ◌%◌, ◌≤◌, Bool, false, not, cond, List, [], ◌∷◌, get_or, take, drop, eqb, leb, Option, Some, None}
 use Rattle.labels.specs.declared.Label.{Label}
 use Rattle.labels.specs.Core.{word_count}
 use Rattle.quotas.specs.Any.{any, both}
@@ -7,8 +7,6 @@ use Rattle.rules.specs.Kernel.{gate_code, Kind, is_gate, is_segment, is_containe
 pub use Rattle.rules.specs.Kernel.{blocks_of}
 unfoldable pub use Rattle.rules.specs.Kernel.{kind_from}
 use Rattle.tables.specs.Layout.{View, row_count, link_count, block_count}
-use Rattle.book.specs.declared.Found.{Found}
-use Rattle.book.specs.declared.Found.TheVariants.{At, Nothing}
 
 -- ---- what stands in a book
 
@@ -85,18 +83,18 @@ live_link v l = not (eqb (mark_of v l) 0)
 -- ---- the lowest place
 
 -- the lowest of n places from i on at which a test holds
-unfoldable pub first_from : ℕ → ℕ → (ℕ → Bool) → Found
-first_from zero i f = Nothing
-first_from (suc n) i f = cond (f i) (At i) (first_from n (suc i) f)
+unfoldable pub first_from : ℕ → ℕ → (ℕ → Bool) → Option ℕ
+first_from zero i f = None
+first_from (suc n) i f = cond (f i) (Some i) (first_from n (suc i) f)
 
 -- the lowest place below n
-abbrev pub first : ℕ → (ℕ → Bool) → Found
+abbrev pub first : ℕ → (ℕ → Bool) → Option ℕ
 first n f = first_from n 0 f
 
 -- by whether a place was found
-abbrev pub on_found : {X : Type 0} → Found → (ℕ → X) → X → X
-on_found (At i) hit miss = hit i
-on_found Nothing hit miss = miss
+abbrev pub on_found : {X : Type 0} → Option ℕ → (ℕ → X) → X → X
+on_found (Some i) hit miss = hit i
+on_found None hit miss = miss
 
 -- ---- bytes of a segment
 
@@ -112,7 +110,7 @@ unfoldable pub place_of : View → ℕ → ℕ → ℕ
 place_of v r i = block_size * block_at v r (i / block_size) + i % block_size
 
 -- f 0, f 1, .. and f (n - 1)
-unfoldable pub collect : ℕ → (ℕ → ℕ) → List ℕ
+unfoldable pub collect : {A : Type 0} → ℕ → (ℕ → A) → List A
 collect zero f = []
 collect (suc n) f = f 0 ∷ collect n (λ i. f (suc i))
 
@@ -161,7 +159,7 @@ object_at v area r = of_kind (standing v r (kind_from (code_of v r)) (bytes_of v
 abbrev pub has_id : View → ℕ → ℕ → Bool
 has_id v o r = both (live_row v r) (eqb (id_of v r) o)
 
-unfoldable pub row_of : View → ℕ → Found
+unfoldable pub row_of : View → ℕ → Option ℕ
 row_of v o = first row_count (has_id v o)
 
 -- link l leads from the object d to the object o

@@ -1,6 +1,6 @@
 -- Call 8 on rows, links and blocks, part by part: which links go, which rows are then freed, which blocks. Laws/CutLinks.antt has that the parts
 -- come to cut_view and cut_area.
-use Rattle.std.specs.Prelude.{ℕ, ◌-◌, ◌/◌, ◌<◌, ◌≤◌, Bool, not, cond, ◌⊎◌, ◌≡◌, List, length, get_or, set, eqb}
+use Rattle.std.specs.Prelude.{ℕ, ◌-◌, ◌/◌, ◌<◌, ◌≤◌, Bool, true, false, not, cond, ◌⊎◌, ◌≡◌, List, length, get_or, set, eqb}
 use Rattle.quotas.specs.Any.{any, both, either}
 use Rattle.rules.specs.Kernel.{container_code, block_size, last_number, Change, cut}
 use Rattle.tables.specs.Layout.{View, view, size, row_count, link_count, block_count, kind_t, link_from_t, owner_t, on_tab, put_t}
@@ -55,28 +55,28 @@ pub record Unlinked (v : View) (l : ℕ) (u : View) : Type 0 where
 
 -- ---- rows
 
--- a list over rows with 1 at the row that link l leads to, if it is live
-unfoldable pub end_marked : View → ℕ → List ℕ → List ℕ
-end_marked v l h = cond (live_link v l) (set h (to_of v l) 1) h
+-- marks of rows, with the row marked that link l leads to, if it is live
+unfoldable pub end_marked : View → ℕ → List Bool → List Bool
+end_marked v l h = cond (live_link v l) (set h (to_of v l) true) h
 
 -- a live link leads to row r
 unfoldable pub held_row : View → ℕ → Bool
 held_row v r = any link_count (λ l. both (live_link v l) (eqb (to_of v l) r))
 
--- a list over rows with 1 at each row that a live link leads to
-unfoldable pub held_marked : View → List ℕ → List ℕ
-held_marked v h = collect row_count (λ r. cond (held_row v r) 1 (get_or h r 0))
+-- marks of rows, with each row marked that a live link leads to
+unfoldable pub held_marked : View → List Bool → List Bool
+held_marked v h = collect row_count (λ r. either (held_row v r) (get_or h r false))
 
 -- a row that is held, or has the root's id, stays
-abbrev pub spared : View → ℕ → ℕ → ℕ → Bool
-spared v r root held = either (eqb held 1) (eqb (id_of v r) root)
+abbrev pub spared : View → ℕ → ℕ → Bool → Bool
+spared v r root held = either held (eqb (id_of v r) root)
 
 -- any other is freed. RULES 1.10: "To free one is to set the mark that docs/BOOK.md names to 0, .."
-unfoldable pub row_freed : View → ℕ → ℕ → ℕ → View
+unfoldable pub row_freed : View → ℕ → ℕ → Bool → View
 row_freed v r root held = cond (spared v r root held) v (put_t kind_t r 0 v)
 
-unfoldable pub rows_freed : List ℕ → View → View
-rows_freed h v = on_tab kind_t (λ k. collect row_count (λ r. cond (spared v r (root_of v) (get_or h r 0)) (get_or k r 0) 0)) v
+unfoldable pub rows_freed : List Bool → View → View
+rows_freed h v = on_tab kind_t (λ k. collect row_count (λ r. cond (spared v r (root_of v) (get_or h r false)) (get_or k r 0) 0)) v
 
 -- RULES 8.8: "An object that is linked nowhere any more is freed, except the root."
 unfoldable pub rows_swept : View → View

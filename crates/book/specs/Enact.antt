@@ -2,7 +2,7 @@
 -- link of the book or a block of the data area is needed, the free one with the lowest number is taken, .."
 -- So what a change leaves is fixed to the byte. Laws/ has for each that the world it leaves is the change
 -- applied to the world before.
-use Rattle.std.specs.Prelude.{ℕ, zero, suc, ◌+◌, ◌*◌, ◌-◌, ◌/◌, ◌%◌, cond, List, ◌++◌, length, get_or, take, replicate, eqb, leb, ltb}
+use Rattle.std.specs.Prelude.{ℕ, zero, suc, ◌+◌, ◌*◌, ◌-◌, ◌/◌, ◌%◌, cond, List, ◌++◌, length, get_or, take, replicate, eqb, leb, ltb, Option}
 use Rattle.labels.specs.declared.Label.{Label}
 use Rattle.labels.specs.Core.{word_count}
 use Rattle.quotas.specs.Any.{both}
@@ -10,7 +10,6 @@ use Rattle.rules.specs.Kernel.{Obj, kind_code, Edit, relabel, fix, requota, rewr
 use Rattle.tables.specs.Layout.{View, row_count, link_count, block_count, next_t, root_t, id_t, kind_t, mask_t, fixed_t, quota_t, len_t, entry_t, label_default_t, label_words_t, clear_default_t}
 use Rattle.tables.specs.Layout.{clear_words_t, description_t, closure_t, link_from_t, link_to_t, owner_t, index_t, empty, on_tab, put_t, run_t}
 use Rattle.book.specs.Book.{next_of, id_of, code_of, len_of, mark_of, to_of, owner_of, index_of, blocks_of, first, on_found, row_of, collect, world_of}
-use Rattle.book.specs.declared.Found.{Found}
 
 -- RULES 1.8: ".. the data area, 16,384 bytes in 256 blocks of 64."
 abbrev pub area_size : ℕ
@@ -35,13 +34,13 @@ requotaed r q v = put_t quota_t r q v
 
 -- ---- a new object
 
-unfoldable pub free_row : View → Found
+unfoldable pub free_row : View → Option ℕ
 free_row v = first row_count (λ r. eqb (code_of v r) 0)
 
-unfoldable pub free_link : View → Found
+unfoldable pub free_link : View → Option ℕ
 free_link v = first link_count (λ l. eqb (mark_of v l) 0)
 
-unfoldable pub free_block : View → Found
+unfoldable pub free_block : View → Option ℕ
 free_block v = first block_count (λ b. eqb (owner_of v b) 0)
 
 -- n numbers: those of l, then zeros

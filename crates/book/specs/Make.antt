@@ -1,11 +1,9 @@
 -- A new object as it is handed to the book: numbers and labels by value, texts as bytes lent. Which object of the rules that is, and what a create and
 -- a link leave, by rows.
-use Rattle.std.specs.Prelude.{ℕ, ◌+◌, ◌<◌, ◌≤◌, ◌≡◌, List, length, replicate}
+use Rattle.std.specs.Prelude.{ℕ, ◌+◌, ◌<◌, ◌≤◌, ◌≡◌, List, length, replicate, Option, Some, None}
 use Rattle.labels.specs.Core.{word_count, plain, level1, level2}
 use Rattle.rules.specs.Kernel.{thread_code, container_code, Obj, kind_code, text_size, last_number, root_quota, plain_object}
 use Rattle.tables.specs.Layout.{View, row_count, size, view, next_t, root_t, id_t, kind_t, mask_t, fixed_t, quota_t, len_t, entry_t, empty, put_t}
-use Rattle.book.specs.declared.Found.{Found}
-use Rattle.book.specs.declared.Found.TheVariants.{At, Nothing}
 use Rattle.book.specs.declared.make.NewRow.{NewRow}
 use Rattle.book.specs.Book.{next_of, on_found, kind_from, of_kind}
 use Rattle.book.specs.Enact.{moved_on, padded, free_row, free_link, row_filled, link_filled}
@@ -58,8 +56,8 @@ unfoldable pub placed_in : ℕ → Obj → View → View
 placed_in c x v = on_found (free_row v) (λ r. on_found (free_link v) (λ l. link_filled l c r (row_filled r (next_of v) x v)) v) v
 
 -- the row that is taken
-unfoldable pub place_for : View → Found
-place_for v = on_found (free_row v) (λ r. on_found (free_link v) (λ l. At r) Nothing) Nothing
+unfoldable pub place_for : View → Option ℕ
+place_for v = on_found (free_row v) (λ r. on_found (free_link v) (λ l. Some r) None) None
 
 -- a create in the container at row c
 unfoldable pub created_in : ℕ → Obj → View → View

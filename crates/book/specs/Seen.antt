@@ -1,6 +1,6 @@
 -- What one pass over the blocks keeps in two arrays: where the blocks of each segment begin when all segments' blocks are numbered one after the
 -- other, and which of these numbers a block was seen to have.
-use Rattle.std.specs.Prelude.{ℕ, ◌+◌, ◌-◌, ◌%◌, ◌<◌, not, List, ◌≡◌, length, get_or, eqb}
+use Rattle.std.specs.Prelude.{ℕ, ◌+◌, ◌-◌, ◌%◌, ◌<◌, Bool, false, not, List, ◌≡◌, length, get_or, eqb}
 use Rattle.quotas.specs.Sum.{Σ, when}
 use Rattle.rules.specs.Kernel.{segment_code}
 use Rattle.tables.specs.Layout.{View, row_count, block_count}
@@ -35,7 +35,7 @@ pub record Offsets (v : View) (n : ℕ) (offsets : List ℕ) : Type 0 where
   pub offsets_long : length offsets ≡ row_count
   pub offset : (r : ℕ) → r < n → get_or offsets r 0 ≡ two_bytes (offset_of v r)
 
--- the array holds what was seen of the blocks below n
-pub record Seen (v : View) (n : ℕ) (seen : List ℕ) : Type 0 where
+-- the array holds which numbers were seen of the blocks below n
+pub record Seen (v : View) (n : ℕ) (seen : List Bool) : Type 0 where
   pub seen_long : length seen ≡ block_count
-  pub held : (x : ℕ) → x < block_count → get_or seen x 0 ≡ seen_below v n x
+  pub held : (x : ℕ) → x < block_count → get_or seen x false ≡ not (eqb (seen_below v n x) 0)

@@ -1,52 +1,58 @@
 // The data area's bytes.
-ghost use Rattle.std.specs.Prelude.{◌≡◌, ◌+◌, ◌≤◌, ◌<◌, length, replicate};
+ghost use Rattle.std.specs.Prelude.{◌≡◌, ◌+◌, ◌≤◌, length, replicate};
+ghost use Rattle.std.specs.Borrow.{sem, Lends, Array, u8};
 ghost use Rattle.std.proofs.lemmas.List.Edits.{sets};
-ghost use Rattle.tables.specs.Layout.{block_count};
 ghost use Rattle.book.specs.Enact.{area_size};
 ghost use Rattle.book.specs.Resize.{cleared, block_cleared};
 
 use super::limits::BLOCK_SIZE;
+use super::sound::AREA_LEN;
+use tables::Block;
+
+// RULES 1.8: ".. the data area, 16,384 bytes in 256 blocks of 64."
+pub type Area = [u8; AREA_LEN];
+
+// The same bytes as a data area that is written.
+pub fn area_in_mut(area: &mut [u8]) -> &mut Area
+    requires { length area.old ≡ area_size }
+    ensures* writes_back { sem 𝓛 (Lends (Array u8 0) (Array u8 0) area.entry result (λ w. w)) }
+    ensures value { result.now ≡ area.old }
+{
+    let Some(w) = area.as_mut_array() else {
+        unreachable!()
+    };
+    w
+}
 
 // Puts the bytes into the area from `place` on.
+#[tactic(auto, using(crate::specs::Laws::Cleared::written_run))]
 pub fn write_area(area: &mut [u8], place: usize, bytes: &[u8])
     requires { place + length bytes.now ≤ length area.old }
     ensures { area.new ≡ sets area.old place bytes.now }
 {
-    let mut j: usize = 0;
-    while j < bytes.len() {
-        area[place + j] = bytes[j];
-        j += 1;
-    }
+    area[place..place + bytes.len()].copy_from_slice(bytes);
 }
 
 // Sets the bytes from `from` to before `to` to zero.
+#[tactic(auto, using(crate::specs::Laws::Cleared::cleared_run))]
 pub fn clear_run(area: &mut [u8], from: usize, to: usize)
     requires { (from ≤ to) × (to ≤ length area.old) }
     ensures { area.new ≡ cleared from to area.old }
 {
-    let mut i = from;
-    while i < to {
-        area[i] = 0;
-        i += 1;
-    }
+    area[from..to].fill(0);
 }
 
 // Sets every byte to zero, of the data area or of an output.
 pub fn clear_all(area: &mut [u8])
     ensures { area.new ≡ replicate (length area.old) 0 }
 {
-    let mut i: usize = 0;
-    while i < area.len() {
-        area[i] = 0;
-        i += 1;
-    }
+    area.fill(0);
 }
 
 // Sets all bytes of block x to zero.
-pub fn clear_block(area: &mut [u8], x: usize)
-    requires { (length area.old ≡ area_size) × (x < block_count) }
+pub fn clear_block(area: &mut Area, x: Block)
     ensures { area.new ≡ block_cleared x area.old }
 {
-    let from = BLOCK_SIZE * x;
+    let from = BLOCK_SIZE * usize::from(x);
     clear_run(area, from, from + BLOCK_SIZE);
 }

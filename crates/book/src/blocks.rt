@@ -1,60 +1,36 @@
 // The blocks of the data area: which is block k of a segment, and which is free.
-ghost use Rattle.std.specs.Prelude.{◌≡◌, ◌<◌, length, eqb};
-ghost use Rattle.tables.specs.Layout.{size, view, row_count, block_count};
+ghost use Rattle.std.specs.Prelude.{◌≡◌, eqb};
+ghost use Rattle.tables.specs.Layout.{view, block_count};
 ghost use Rattle.book.specs.Book.{is_block, owner_of, first};
 ghost use Rattle.book.specs.Enact.{free_block};
 
-use super::Found;
-use tables::{BLOCKS, INDEX, OWNER, get8, get16};
+use tables::{Block, Book, INDEX, OWNER, Row};
 
 // Whether block x is block k of the segment at row r.
-fn is_block(b: &[u8], r: usize, k: usize, x: usize) -> bool
-    requires { (length b.now ≡ size) × (r < row_count) × (x < block_count) }
+#[tactic(auto, unfolding(quotas::specs::Any::both))]
+fn is_block(b: &Book, r: Row, k: usize, x: Block) -> bool
     ensures { result ≡ is_block (view b.now) r k x }
 {
-    let owner = get16(b, OWNER, x) as usize;
-    if owner != r + 1 {
-        return false;
-    }
-    let index = get8(b, INDEX, x) as usize;
-    index == k
+    OWNER.get(b, x) == u16::from(r) + 1 && usize::from(INDEX.get(b, x)) == k
 }
 
 // The lowest block that is block k of the segment at row r.
-pub fn block_of(b: &[u8], r: usize, k: usize) -> Found
-    requires { (length b.now ≡ size) × (r < row_count) }
+pub fn block_of(b: &Book, r: Row, k: usize) -> Option<Block>
     ensures { result ≡ first block_count (is_block (view b.now) r k) }
 {
-    let mut x: usize = 0;
-    while x < BLOCKS {
-        if is_block(b, r, k, x) {
-            return Found::At(x);
-        }
-        x += 1;
-    }
-    Found::Nothing
+    (0..=Block::MAX).find(|&x| is_block(b, r, k, x))
 }
 
 // Whether block x is free.
-fn is_free(b: &[u8], x: usize) -> bool
-    requires { (length b.now ≡ size) × (x < block_count) }
+fn is_free(b: &Book, x: Block) -> bool
     ensures { result ≡ eqb (owner_of (view b.now) x) 0 }
 {
-    let owner = get16(b, OWNER, x);
-    owner == 0
+    OWNER.get(b, x) == 0
 }
 
 // The lowest free block.
-pub fn free_block(b: &[u8]) -> Found
-    requires { length b.now ≡ size }
+pub fn free_block(b: &Book) -> Option<Block>
     ensures { result ≡ free_block (view b.now) }
 {
-    let mut x: usize = 0;
-    while x < BLOCKS {
-        if is_free(b, x) {
-            return Found::At(x);
-        }
-        x += 1;
-    }
-    Found::Nothing
+    (0..=Block::MAX).find(|&x| is_free(b, x))
 }

@@ -1,233 +1,185 @@
 // Lookups: the row of an id, the link between two rows, the entry of an object in a container, and the fields of a row.
 ghost use Rattle.std.specs.Prelude.{◌≡◌, ◌<◌, length, eqb};
 ghost use Rattle.rules.specs.Kernel.{text_size};
-ghost use Rattle.tables.specs.Layout.{view, size, row_count, link_count};
+ghost use Rattle.tables.specs.Layout.{view, link_count};
 ghost use Rattle.book.specs.Book.{next_of, root_of, id_of, code_of, mask_of, fixed_of, quota_of, len_of, entry_of, label_of, clearance_of, description_of, closure_of, has_id, row_of};
-ghost use Rattle.book.specs.Find.{thread_row, container_row, leads, link_between, entry_place};
+ghost use Rattle.book.specs.Find.{row_of_kind, thread_row, container_row, leads, link_between, entry_place};
 
-use super::Found;
+use super::in_place;
 use super::kinds::{CONTAINER, FREE, THREAD};
-use labels::{Label, WORDS};
+use labels::Label;
+use labels::in_place::value;
 use tables::{
-    CLEAR_DEFAULT, CLEAR_WORDS, CLOSURE, DESCRIPTION, ENTRY, FIXED, ID, KIND, LABEL_DEFAULT,
-    LABEL_WORDS, LEN, LINK_FROM, LINK_TO, LINKS, MASK, QUOTA, ROWS, TEXT_SIZE, get_run8, get_words,
-    get8, get16, get64,
+    Book, CLOSURE, DESCRIPTION, ENTRY, FIXED, ID, KIND, LEN, LINK_FROM, LINK_TO, LINKS, MASK,
+    QUOTA, Row, TEXT_SIZE,
 };
 
 // Where an object stands in a container: the two rows and the link between them.
 #[derive(Clone, Copy)]
-pub enum Entry {
-    In {
-        container: usize,
-        object: usize,
-        link: usize,
-    },
-    Nothing,
+pub struct Entry {
+    pub container: Row,
+    pub object: Row,
+    pub link: usize,
 }
 
 // ---- the fields of a row
 
-pub fn next_of(b: &[u8]) -> u64
-    requires { length b.now ≡ size }
+pub fn next_of(b: &Book) -> u64
     ensures { result ≡ next_of (view b.now) }
 {
     tables::next(b)
 }
 
-pub fn root_of(b: &[u8]) -> u64
-    requires { length b.now ≡ size }
+pub fn root_of(b: &Book) -> u64
     ensures { result ≡ root_of (view b.now) }
 {
     tables::root(b)
 }
 
-pub fn id_of(b: &[u8], r: usize) -> u64
-    requires { (length b.now ≡ size) × (r < row_count) }
+pub fn id_of(b: &Book, r: Row) -> u64
     ensures { result ≡ id_of (view b.now) r }
 {
-    get64(b, ID, r)
+    ID.get(b, r)
 }
 
 // The code of the row's kind, FREE where the row is free.
-pub fn kind_of(b: &[u8], r: usize) -> u8
-    requires { (length b.now ≡ size) × (r < row_count) }
+pub fn kind_of(b: &Book, r: Row) -> u8
     ensures { result ≡ code_of (view b.now) r }
 {
-    get8(b, KIND, r)
+    KIND.get(b, r)
 }
 
-pub fn mask_of(b: &[u8], r: usize) -> u64
-    requires { (length b.now ≡ size) × (r < row_count) }
+pub fn mask_of(b: &Book, r: Row) -> u64
     ensures { result ≡ mask_of (view b.now) r }
 {
-    get8(b, MASK, r) as u64
+    u64::from(MASK.get(b, r))
 }
 
 // Whether the segment's quota is fixed.
-pub fn fixed_of(b: &[u8], r: usize) -> bool
-    requires { (length b.now ≡ size) × (r < row_count) }
+pub fn fixed_of(b: &Book, r: Row) -> bool
     ensures { result ≡ eqb (fixed_of (view b.now) r) 1 }
 {
-    get8(b, FIXED, r) == 1
+    FIXED.get(b, r) == 1
 }
 
-pub fn quota_of(b: &[u8], r: usize) -> u64
-    requires { (length b.now ≡ size) × (r < row_count) }
+pub fn quota_of(b: &Book, r: Row) -> u64
     ensures { result ≡ quota_of (view b.now) r }
 {
-    get16(b, QUOTA, r) as u64
+    u64::from(QUOTA.get(b, r))
 }
 
-pub fn len_of(b: &[u8], r: usize) -> u64
-    requires { (length b.now ≡ size) × (r < row_count) }
+pub fn len_of(b: &Book, r: Row) -> u64
     ensures { result ≡ len_of (view b.now) r }
 {
-    get16(b, LEN, r) as u64
+    u64::from(LEN.get(b, r))
 }
 
 // The entry number of a gate.
-pub fn entry_number_of(b: &[u8], r: usize) -> u64
-    requires { (length b.now ≡ size) × (r < row_count) }
+pub fn entry_number_of(b: &Book, r: Row) -> u64
     ensures { result ≡ entry_of (view b.now) r }
 {
-    get64(b, ENTRY, r)
+    ENTRY.get(b, r)
 }
 
-pub fn label_of(b: &[u8], r: usize) -> Label
-    requires { (length b.now ≡ size) × (r < row_count) }
+#[tactic(auto, using(crate::specs::Laws::Shapes::label_long))]
+pub fn label_of(b: &Book, r: Row) -> Label
     ensures { result ≡ label_of (view b.now) r }
 {
-    let default = get8(b, LABEL_DEFAULT, r) as u64;
-    let words = get_words(b, LABEL_WORDS, r * WORDS);
-    Label { default, words }
+    value(in_place::label_of(b, r))
 }
 
-pub fn clearance_of(b: &[u8], r: usize) -> Label
-    requires { (length b.now ≡ size) × (r < row_count) }
+#[tactic(auto, using(crate::specs::Laws::Shapes::clearance_long))]
+pub fn clearance_of(b: &Book, r: Row) -> Label
     ensures { result ≡ clearance_of (view b.now) r }
 {
-    let default = get8(b, CLEAR_DEFAULT, r) as u64;
-    let words = get_words(b, CLEAR_WORDS, r * WORDS);
-    Label { default, words }
+    value(in_place::clearance_of(b, r))
 }
 
 // Fills `out` with the row's description.
-pub fn description_into(b: &[u8], r: usize, out: &mut [u8])
-    requires { (length b.now ≡ size) × (r < row_count) × (length out.old ≡ text_size) }
+pub fn description_into(b: &Book, r: Row, out: &mut [u8])
+    requires { length out.old ≡ text_size }
     ensures { out.new ≡ description_of (view b.now) r }
 {
-    get_run8(b, DESCRIPTION, r * TEXT_SIZE, out);
+    out.copy_from_slice(DESCRIPTION.run(b, usize::from(r) * TEXT_SIZE, TEXT_SIZE));
 }
 
 // Fills `out` with the gate's closure bytes.
-pub fn closure_into(b: &[u8], r: usize, out: &mut [u8])
-    requires { (length b.now ≡ size) × (r < row_count) × (length out.old ≡ text_size) }
+pub fn closure_into(b: &Book, r: Row, out: &mut [u8])
+    requires { length out.old ≡ text_size }
     ensures { out.new ≡ closure_of (view b.now) r }
 {
-    get_run8(b, CLOSURE, r * TEXT_SIZE, out);
+    out.copy_from_slice(CLOSURE.run(b, usize::from(r) * TEXT_SIZE, TEXT_SIZE));
 }
 
 // ---- by id
 
 // Whether row r is live and has this id. Its id is looked at first, since it is seldom the one.
-pub fn has_id(b: &[u8], id: u64, r: usize) -> bool
-    requires { (length b.now ≡ size) × (r < row_count) }
+#[tactic(auto, unfolding(quotas::specs::Any::both))]
+pub fn has_id(b: &Book, id: u64, r: Row) -> bool
     ensures { result ≡ has_id (view b.now) id r }
 {
-    if get64(b, ID, r) != id {
-        return false;
-    }
-    get8(b, KIND, r) != FREE
+    ID.get(b, r) == id && KIND.get(b, r) != FREE
 }
 
 // The lowest live row that has the id.
-pub fn row_of(b: &[u8], id: u64) -> Found
-    requires { length b.now ≡ size }
+pub fn row_of(b: &Book, id: u64) -> Option<Row>
     ensures { result ≡ row_of (view b.now) id }
 {
-    let mut r: usize = 0;
-    while r < ROWS {
-        if has_id(b, id, r) {
-            return Found::At(r);
-        }
-        r += 1;
-    }
-    Found::Nothing
+    (0..=Row::MAX).find(|&r| has_id(b, id, r))
+}
+
+// The row of the id, if its kind has this code.
+#[tactic(auto, using(crate::specs::Laws::Find::row_low), unfolding(crate::specs::Find::row_of_kind))]
+fn row_of_kind(b: &Book, kind: u8, id: u64) -> Option<Row>
+    ensures { result ≡ row_of_kind kind (view b.now) id }
+{
+    let r = row_of(b, id)?;
+    (kind_of(b, r) == kind).then_some(r)
 }
 
 // The row of the id, if it is a thread's.
-pub fn thread_of(b: &[u8], id: u64) -> Found
-    requires { length b.now ≡ size }
+pub fn thread_of(b: &Book, id: u64) -> Option<Row>
     ensures { result ≡ thread_row (view b.now) id }
 {
-    let Found::At(r) = row_of(b, id) else {
-        return Found::Nothing;
-    };
-    if kind_of(b, r) == THREAD {
-        return Found::At(r);
-    }
-    Found::Nothing
+    row_of_kind(b, THREAD, id)
 }
 
 // The row of the id, if it is a container's.
-pub fn container_of(b: &[u8], id: u64) -> Found
-    requires { length b.now ≡ size }
+pub fn container_of(b: &Book, id: u64) -> Option<Row>
     ensures { result ≡ container_row (view b.now) id }
 {
-    let Found::At(r) = row_of(b, id) else {
-        return Found::Nothing;
-    };
-    if kind_of(b, r) == CONTAINER {
-        return Found::At(r);
-    }
-    Found::Nothing
+    row_of_kind(b, CONTAINER, id)
 }
 
 // ---- by links
 
 // Whether link l leads from row c to row o.
-fn leads_to(b: &[u8], c: usize, o: usize, l: usize) -> bool
-    requires { (length b.now ≡ size) × (c < row_count) × (l < link_count) }
+#[tactic(auto, unfolding(quotas::specs::Any::both))]
+fn leads_to(b: &Book, c: Row, o: Row, l: usize) -> bool
+    requires { l < link_count }
     ensures { result ≡ leads (view b.now) c o l }
 {
-    if get16(b, LINK_FROM, l) as usize != c + 1 {
-        return false;
-    }
-    get16(b, LINK_TO, l) as usize == o
+    LINK_FROM.get(b, l) == u16::from(c) + 1 && LINK_TO.get(b, l) == u16::from(o)
 }
 
 // The lowest live link from row c to row o.
-pub fn link_of(b: &[u8], c: usize, o: usize) -> Found
-    requires { (length b.now ≡ size) × (c < row_count) }
+pub fn link_of(b: &Book, c: Row, o: Row) -> Option<usize>
     ensures { result ≡ link_between (view b.now) c o }
 {
-    let mut l: usize = 0;
-    while l < LINKS {
-        if leads_to(b, c, o, l) {
-            return Found::At(l);
-        }
-        l += 1;
-    }
-    Found::Nothing
+    (0..LINKS).find(|&l| leads_to(b, c, o, l))
 }
 
 // The place of the object o in the container d.
-pub fn entry_of(b: &[u8], d: u64, o: u64) -> Entry
-    requires { length b.now ≡ size }
+#[tactic(auto, using(crate::specs::Laws::Find::container_low), unfolding(crate::specs::Find::entry_place))]
+pub fn entry_of(b: &Book, d: u64, o: u64) -> Option<Entry>
     ensures { result ≡ entry_place (view b.now) d o }
 {
-    let Found::At(container) = container_of(b, d) else {
-        return Entry::Nothing;
-    };
-    let Found::At(object) = row_of(b, o) else {
-        return Entry::Nothing;
-    };
-    let Found::At(link) = link_of(b, container, object) else {
-        return Entry::Nothing;
-    };
-    Entry::In {
+    let container = container_of(b, d)?;
+    let object = row_of(b, o)?;
+    let link = link_of(b, container, object)?;
+    Some(Entry {
         container,
         object,
         link,
-    }
+    })
 }

@@ -1,26 +1,28 @@
 // A row's label and clearance where the book holds them, for all that only looks at them.
-ghost use Rattle.std.specs.Prelude.{◌≡◌, ◌<◌, length};
-ghost use Rattle.labels.specs.Core.{held_in};
-ghost use Rattle.tables.specs.Layout.{view, size, row_count};
+ghost use Rattle.std.specs.Prelude.{◌≡◌};
+ghost use Rattle.labels.specs.Core.{meant};
+ghost use Rattle.tables.specs.Layout.{view};
 ghost use Rattle.book.specs.Book.{label_of, clearance_of};
 
-use labels::{Held, WORDS};
-use tables::{CLEAR_DEFAULT, CLEAR_WORDS, LABEL_DEFAULT, LABEL_WORDS, get8, words_from};
+use labels::{LabelRef, WORDS};
+use tables::{Book, CLEAR_DEFAULT, CLEAR_WORDS, LABEL_DEFAULT, LABEL_WORDS, Row};
 
-pub fn label_of(b: &[u8], r: usize) -> Held
-    requires { (length b.now ≡ size) × (r < row_count) }
-    ensures { held_in b.now result ≡ label_of (view b.now) r }
+#[tactic(auto, using(labels::specs::Core::InPlace::meant_is))]
+pub fn label_of(b: &Book, r: Row) -> LabelRef
+    ensures { meant result ≡ label_of (view b.now) r }
 {
-    let default = get8(b, LABEL_DEFAULT, r) as u64;
-    let from = words_from(b, LABEL_WORDS, r * WORDS);
-    Held { default, from }
+    LabelRef {
+        default: u64::from(LABEL_DEFAULT.get(b, r)),
+        words: LABEL_WORDS.words(b, usize::from(r) * WORDS),
+    }
 }
 
-pub fn clearance_of(b: &[u8], r: usize) -> Held
-    requires { (length b.now ≡ size) × (r < row_count) }
-    ensures { held_in b.now result ≡ clearance_of (view b.now) r }
+#[tactic(auto, using(labels::specs::Core::InPlace::meant_is))]
+pub fn clearance_of(b: &Book, r: Row) -> LabelRef
+    ensures { meant result ≡ clearance_of (view b.now) r }
 {
-    let default = get8(b, CLEAR_DEFAULT, r) as u64;
-    let from = words_from(b, CLEAR_WORDS, r * WORDS);
-    Held { default, from }
+    LabelRef {
+        default: u64::from(CLEAR_DEFAULT.get(b, r)),
+        words: CLEAR_WORDS.words(b, usize::from(r) * WORDS),
+    }
 }

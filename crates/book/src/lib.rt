@@ -1,13 +1,6 @@
 // The book: what the two lent areas mean, whether a book is sound, and the changes a granted call makes.
 #![tactic(auto)]
 
-// A place, or nothing.
-#[derive(Clone, Copy)]
-pub enum Found {
-    At(usize),
-    Nothing,
-}
-
 pub mod kinds; // kinds.rt: the codes of the kinds
 pub mod limits; // limits.rt: numbers of the rules
 pub mod in_place; // in_place.rt: a row's label and clearance where they are held

@@ -1,17 +1,16 @@
 // An object created and a link added: the lowest free row and the lowest free link are filled, and the number moves on.
 ghost use Rattle.std.specs.Prelude.{◌≡◌, ◌<◌, ◌*◌, length};
 ghost use Rattle.rules.specs.Kernel.{text_size};
-ghost use Rattle.tables.specs.Layout.{row_count, link_count, size, view, description_t, closure_t, run_t};
+ghost use Rattle.tables.specs.Layout.{link_count, view, description_t, closure_t, run_t};
 ghost use Rattle.book.specs.Enact.{free_row, free_link, row_filled, link_filled};
 ghost use Rattle.book.specs.Make.{object_of, numbers_filled, placed_in, place_for, created_in, linked_in, Filling, Creating, Linking};
 
-use super::Found;
 use super::alter::{move_on, relabel};
 use super::kinds::FREE;
 use labels::Label;
 use tables::{
-    CLOSURE, DESCRIPTION, ENTRY, FIXED, ID, KIND, LEN, LINK_FROM, LINK_TO, LINKS, MASK, QUOTA,
-    ROWS, TEXT_SIZE, get8, get16, next, put_run8, put8, put16, put64,
+    Book, CLOSURE, DESCRIPTION, ENTRY, FIXED, ID, KIND, LEN, LINK_FROM, LINK_TO, LINKS, MASK,
+    QUOTA, Row, TEXT_SIZE, next,
 };
 
 // What a new row holds but for its texts; what its kind does not have is 0.
@@ -27,59 +26,44 @@ pub struct NewRow {
 
 // ---- the lowest free places
 
-pub fn free_row(b: &[u8]) -> Found
-    requires { length b.now ≡ size }
+pub fn free_row(b: &Book) -> Option<Row>
     ensures { result ≡ free_row (view b.now) }
 {
-    let mut r: usize = 0;
-    while r < ROWS {
-        if get8(b, KIND, r) == FREE {
-            return Found::At(r);
-        }
-        r += 1;
-    }
-    Found::Nothing
+    (0..=Row::MAX).find(|&r| KIND.get(b, r) == FREE)
 }
 
-pub fn free_link(b: &[u8]) -> Found
-    requires { length b.now ≡ size }
+pub fn free_link(b: &Book) -> Option<usize>
     ensures { result ≡ free_link (view b.now) }
 {
-    let mut l: usize = 0;
-    while l < LINKS {
-        if get16(b, LINK_FROM, l) == 0 {
-            return Found::At(l);
-        }
-        l += 1;
-    }
-    Found::Nothing
+    (0..LINKS).find(|&l| LINK_FROM.get(b, l) == 0)
 }
 
 // ---- a row and a link
 
-fn fill_numbers(b: &mut [u8], r: usize, id: u64, kind: u8, mask: u8, quota: u16, entry: u64)
-    requires { (length b.old ≡ size) × (r < row_count) }
+#[tactic(auto, unfolding(crate::specs::Make::numbers_filled))]
+fn fill_numbers(b: &mut Book, r: Row, id: u64, kind: u8, mask: u8, quota: u16, entry: u64)
     ensures { view b.new ≡ numbers_filled r id kind mask quota entry (view b.old) }
 {
-    put64(b, ID, r, id);
-    put8(b, KIND, r, kind);
-    put8(b, MASK, r, mask);
-    put8(b, FIXED, r, 0);
-    put16(b, QUOTA, r, quota);
-    put16(b, LEN, r, 0);
-    put64(b, ENTRY, r, entry);
+    ID.put(b, r, id);
+    KIND.put(b, r, kind);
+    MASK.put(b, r, mask);
+    FIXED.put(b, r, 0);
+    QUOTA.put(b, r, quota);
+    LEN.put(b, r, 0);
+    ENTRY.put(b, r, entry);
 }
 
-fn fill_texts(b: &mut [u8], r: usize, description: &[u8], closure: &[u8])
-    requires { (length b.old ≡ size) × (r < row_count) × (length description.now ≡ text_size) × (length closure.now ≡ text_size) }
+fn fill_texts(b: &mut Book, r: Row, description: &[u8], closure: &[u8])
+    requires { (length description.now ≡ text_size) × (length closure.now ≡ text_size) }
     ensures { view b.new ≡ run_t closure_t (r * text_size) closure.now (run_t description_t (r * text_size) description.now (view b.old)) }
 {
-    put_run8(b, DESCRIPTION, r * TEXT_SIZE, description);
-    put_run8(b, CLOSURE, r * TEXT_SIZE, closure);
+    DESCRIPTION.put_run(b, usize::from(r) * TEXT_SIZE, description);
+    CLOSURE.put_run(b, usize::from(r) * TEXT_SIZE, closure);
 }
 
 // Every field of row r is written.
-pub fn fill_row(b: &mut [u8], r: usize, id: u64, row: NewRow, description: &[u8], closure: &[u8])
+#[tactic(auto, using(crate::specs::Laws::Handed::filled_is))]
+pub fn fill_row(b: &mut Book, r: Row, id: u64, row: NewRow, description: &[u8], closure: &[u8])
     requires { Filling b.old r row description.now closure.now }
     ensures { view b.new ≡ row_filled r id (object_of row description.now closure.now) (view b.old) }
 {
@@ -89,35 +73,34 @@ pub fn fill_row(b: &mut [u8], r: usize, id: u64, row: NewRow, description: &[u8]
 }
 
 // Link l leads from row c to row o.
-pub fn fill_link(b: &mut [u8], l: usize, c: usize, o: usize)
-    requires { (length b.old ≡ size) × (l < link_count) × (c < row_count) × (o < row_count) }
+#[tactic(auto, unfolding(crate::specs::Enact::link_filled))]
+pub fn fill_link(b: &mut Book, l: usize, c: Row, o: Row)
+    requires { l < link_count }
     ensures { view b.new ≡ link_filled l c o (view b.old) }
 {
-    put16(b, LINK_FROM, l, (c + 1) as u16);
-    put16(b, LINK_TO, l, o as u16);
+    LINK_FROM.put(b, l, u16::from(c) + 1);
+    LINK_TO.put(b, l, u16::from(o));
 }
 
 // ---- the changes
 
 // A new object in the container at row c; the row it is in, or nothing where no place is free.
-fn place(b: &mut [u8], c: usize, row: NewRow, description: &[u8], closure: &[u8]) -> Found
+#[tactic(auto, using(crate::specs::Laws::Places::free_row_low, crate::specs::Laws::Places::link_low), unfolding(crate::specs::Make::place_for, crate::specs::Make::placed_in))]
+fn place(b: &mut Book, c: Row, row: NewRow, description: &[u8], closure: &[u8]) -> Option<Row>
     requires { Creating b.old c row description.now closure.now }
     ensures value { result ≡ place_for (view b.old) }
     ensures b_after { view b.new ≡ placed_in c (object_of row description.now closure.now) (view b.old) }
 {
-    let Found::At(r) = free_row(b) else {
-        return Found::Nothing;
-    };
-    let Found::At(l) = free_link(b) else {
-        return Found::Nothing;
-    };
+    let r = free_row(b)?;
+    let l = free_link(b)?;
     let id = next(b);
     fill_row(b, r, id, row, description, closure);
     fill_link(b, l, c, r);
-    Found::At(r)
+    Some(r)
 }
 
-pub fn create(b: &mut [u8], c: usize, row: NewRow, description: &[u8], closure: &[u8]) -> Found
+#[tactic(auto, using(crate::specs::Laws::Places::placed_going), unfolding(crate::specs::Make::created_in))]
+pub fn create(b: &mut Book, c: Row, row: NewRow, description: &[u8], closure: &[u8]) -> Option<Row>
     requires { Creating b.old c row description.now closure.now }
     ensures value { result ≡ place_for (view b.old) }
     ensures b_after { view b.new ≡ created_in c (object_of row description.now closure.now) (view b.old) }
@@ -128,16 +111,17 @@ pub fn create(b: &mut [u8], c: usize, row: NewRow, description: &[u8], closure: 
 }
 
 // The object at row o is linked in the container at row c; the link, or nothing where none is free.
-pub fn add_link(b: &mut [u8], c: usize, o: usize) -> Found
+#[tactic(auto, using(crate::specs::Laws::Places::link_low, crate::specs::Laws::Places::linked_going), unfolding(crate::specs::Make::linked_in))]
+pub fn add_link(b: &mut Book, c: Row, o: Row) -> Option<usize>
     requires { Linking b.old c o }
     ensures value { result ≡ free_link (view b.old) }
     ensures b_after { view b.new ≡ linked_in c o (view b.old) }
 {
-    let Found::At(l) = free_link(b) else {
+    let Some(l) = free_link(b) else {
         move_on(b);
-        return Found::Nothing;
+        return None;
     };
     fill_link(b, l, c, o);
     move_on(b);
-    Found::At(l)
+    Some(l)
 }

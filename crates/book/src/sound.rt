@@ -1,49 +1,37 @@
 // Whether a book is sound: asked of every book that is lent.
-ghost use Rattle.std.specs.Prelude.{◌≡◌, length};
-ghost use Rattle.tables.specs.Layout.{size, view};
+ghost use Rattle.std.specs.Prelude.{◌≡◌, true, false, MatchOption};
+ghost use Rattle.tables.specs.Layout.{view};
 ghost use Rattle.book.specs.Test.{sound_b, book_b, areas_b};
 
 use super::limits::BLOCK_SIZE;
 use super::sound_blocks::blocks_ok;
 use super::sound_links::links_ok;
 use super::sound_rows::rows_ok;
-use tables::{BLOCKS, is_whole};
+use tables::{BLOCKS, Book, book_in};
 
 // RULES 1.8: ".. the data area, 16,384 bytes in 256 blocks of 64."
 pub const AREA_LEN: usize = BLOCKS * BLOCK_SIZE;
 
-fn tables_ok(b: &[u8]) -> bool
-    requires { length b.now ≡ size }
+#[tactic(auto, unfolding(crate::specs::Test::sound_b))]
+fn tables_ok(b: &Book) -> bool
     ensures { result ≡ sound_b (view b.now) }
 {
-    if !rows_ok(b) {
-        return false;
-    }
-    if !links_ok(b) {
-        return false;
-    }
-    blocks_ok(b)
+    rows_ok(b) && links_ok(b) && blocks_ok(b)
 }
 
 // Whether these are the bytes of a sound book.
+#[tactic(auto, unfolding(crate::specs::Test::book_b))]
 pub fn sound(b: &[u8]) -> bool
     ensures { result ≡ book_b b.now }
 {
-    if !is_whole(b) {
-        return false;
-    }
-    tables_ok(b)
+    book_in(b).is_some_and(tables_ok)
 }
 
-// Whether both areas have their lengths and the book is sound.
-pub fn areas_sound(b: &[u8], area: &[u8]) -> bool
-    ensures { result ≡ areas_b b.now area.now }
+// The book that is lent, if both areas have their lengths and it is sound.
+#[tactic(auto, unfolding(crate::specs::Test::areas_b))]
+pub fn sound_book<'a>(b: &'a [u8], area: &[u8]) -> Option<&'a Book>
+    ensures { MatchOption result (areas_b b.now area.now ≡ false) (λ w. (areas_b b.now area.now ≡ true) × (w.now ≡ b.now)) }
 {
-    if !is_whole(b) {
-        return false;
-    }
-    if area.len() != AREA_LEN {
-        return false;
-    }
-    tables_ok(b)
+    let book = book_in(b)?;
+    (area.len() == AREA_LEN && tables_ok(book)).then_some(book)
 }

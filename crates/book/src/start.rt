@@ -1,16 +1,16 @@
 // Start: both areas are cleared, and the root and its thread are made.
-ghost use Rattle.std.specs.Prelude.{◌≡◌, true, ◌<◌, length};
+ghost use Rattle.std.specs.Prelude.{◌≡◌, true, ◌<◌};
 ghost use Rattle.rules.specs.Kernel.{startable, last_number};
-ghost use Rattle.tables.specs.Layout.{size, view};
-ghost use Rattle.book.specs.Enact.{area_size, start_view, start_area};
+ghost use Rattle.tables.specs.Layout.{view};
+ghost use Rattle.book.specs.Enact.{start_view, start_area};
 ghost use Rattle.book.specs.Make.{root_row, thread_row, root_made, thread_made};
 
-use super::area::clear_all;
+use super::area::{Area, clear_all};
 use super::kinds::{CONTAINER, THREAD};
 use super::limits::ROOT_QUOTA;
 use super::make::{NewRow, fill_link, fill_row};
 use labels::Label;
-use tables::{NEXT, ROOT, TEXT_SIZE, clear, put64};
+use tables::{Book, NEXT, ROOT, TEXT_SIZE, clear};
 
 // The root has every unit and forbids nothing.
 fn root_row() -> NewRow
@@ -40,20 +40,21 @@ fn thread_row() -> NewRow
 }
 
 // A cleared book gets its numbers and the root.
-fn make_root(b: &mut [u8], first: u64)
-    requires { (length b.old ≡ size) × (first < last_number) }
+#[tactic(auto, unfolding(crate::specs::Make::root_made))]
+fn make_root(b: &mut Book, first: u64)
+    requires { first < last_number }
     ensures { view b.new ≡ root_made first }
 {
     clear(b);
-    put64(b, NEXT, 0, first + 2);
-    put64(b, ROOT, 0, first);
+    NEXT.put(b, 0, first + 2);
+    ROOT.put(b, 0, first);
     let text = [0u8; TEXT_SIZE];
     fill_row(b, 0, first, root_row(), &text, &text);
 }
 
 // The root's thread, linked in it.
-fn make_thread(b: &mut [u8], id: u64)
-    requires { length b.old ≡ size }
+#[tactic(auto, unfolding(crate::specs::Make::thread_made))]
+fn make_thread(b: &mut Book, id: u64)
     ensures { view b.new ≡ thread_made id (view b.old) }
 {
     let text = [0u8; TEXT_SIZE];
@@ -62,8 +63,9 @@ fn make_thread(b: &mut [u8], id: u64)
 }
 
 // The book and the data area as Start leaves them, whatever bytes were lent.
-pub fn start(b: &mut [u8], area: &mut [u8], first: u64)
-    requires { (length b.old ≡ size) × (length area.old ≡ area_size) × (startable first ≡ true) }
+#[tactic(auto, using(crate::specs::Laws::Start::start_made, crate::specs::Laws::Start::startable_low))]
+pub fn start(b: &mut Book, area: &mut Area, first: u64)
+    requires { startable first ≡ true }
     ensures b_after { view b.new ≡ start_view first }
     ensures area_after { area.new ≡ start_area }
 {

@@ -1,64 +1,31 @@
 // Builds books as it is told, damages them, and prints whether each is sound. The commands are in hosts/README.md.
 #![tactic(auto)]
 
-ghost use Rattle.std.specs.Prelude.{◌≡◌, ◌≤◌, ◌<◌, length, IfOk, OnErr};
-ghost use Rattle.book_verdicts.specs.declared.Told.TheVariants.{Sound, Unsound};
+ghost use Rattle.std.specs.Prelude.{◌≡◌, IfOk, OnErr, None, Some};
+ghost use Rattle.book_verdicts.specs.declared.Told.TheVariants.{Verdict};
 
-use labels::bytes::get_u64;
+use edge::read_full;
+use labels::number::Number;
 use std::io;
 use std::io::Read;
 use tables::BOOK_LEN;
 
-// No index: there was no command left.
-const NO_MORE: u64 = 18446744073709551615;
-
-// What a command comes to: a verdict to be printed, nothing to be printed, or no command left.
+// What a command comes to: a verdict to be printed, or nothing.
 #[derive(Drop)]
 enum Told {
-    Sound,
-    Unsound,
+    Verdict(bool),
     Quiet,
-    End,
 }
 
-fn wide(x: u8) -> usize
-    ensures { result < 256 }
-{
-    x as usize
-}
-
-// Writes a byte, unless the place is past the end.
-fn put_byte(book: &mut [u8], place: usize, x: u8) {
-    if place < book.len() {
-        book[place] = x;
-    }
-}
-
-// Writes the low `width` bytes of a number at an offset.
+// Writes the low `width` bytes of a number at an offset, but for those that would lie past the end.
 fn put_number(book: &mut [u8], offset: usize, width: usize, number: u64) {
     let mut rest = number;
-    let mut i = 0;
-    while i < width {
-        put_byte(book, offset.wrapping_add(i), (rest % 256) as u8);
-        rest = rest / 256;
-        i += 1;
-    }
-}
-
-// Reads until the buffer is full or the input ends; answers how many bytes it put at the buffer's start. The only error is
-// that of a read, and the buffer may then have some of the input.
-fn read_full(input: &mut impl Read, buf: &mut [u8]) -> io::Result<usize>
-    ensures { IfOk result (λ n. n ≤ length buf.new) }
-{
-    let mut done = 0;
-    while done < buf.len() {
-        let n = input.read(&mut buf[done..])?;
-        if n == 0 {
-            break;
+    for i in 0..width {
+        if let Some(byte) = book.get_mut(offset.wrapping_add(i)) {
+            *byte = (rest % 256) as u8;
         }
-        done += n;
+        rest /= 256;
     }
-    Ok(done)
 }
 
 // Command W: an offset in four bytes, a width in one, a number in eight. The only error is that of a read.
@@ -67,68 +34,50 @@ fn put_told(input: &mut impl Read, book: &mut [u8]) -> io::Result<()>
 {
     let mut told = [0u8; 13];
     read_full(input, &mut told)?;
-    let offset = wide(told[0]) + 256 * wide(told[1]) + 65536 * wide(told[2]);
-    let width = wide(told[4]);
-    let number = get_u64(&told, 5);
-    put_number(book, offset, width, number);
+    let offset = u32::from_le_bytes([told[0], told[1], told[2], 0]);
+    let number: u64 = Number::get(&told, 5);
+    put_number(book, offset as usize, usize::from(told[4]), number);
     Ok(())
 }
 
-// Command Z: every byte 0.
-fn clear(book: &mut [u8]) {
-    let mut i = 0;
-    while i < book.len() {
-        book[i] = 0;
-        i += 1;
-    }
-}
-
-// Does one command. The only error is that of a read.
-fn obey(input: &mut impl Read, book: &mut [u8]) -> io::Result<Told>
+// Does one command; none if the input has ended. The only error is that of a read.
+fn obey(input: &mut impl Read, book: &mut [u8]) -> io::Result<Option<Told>>
     ensures err { OnErr result (book.new ≡ book.old) }
-    ensures sound { IfOk result (λ t. t ≡ Sound → book.new ≡ book.old) }
-    ensures unsound { IfOk result (λ t. t ≡ Unsound → book.new ≡ book.old) }
+    ensures verdict { (v : _) → IfOk result (λ t. t ≡ Some (Verdict v) → book.new ≡ book.old) }
 {
     let mut op = [0u8; 1];
-    let got = read_full(input, &mut op)?;
-    if got == 0 {
-        return Ok(Told::End);
+    if read_full(input, &mut op)? == 0 {
+        return Ok(None);
     }
-    let what = op[0];
-    if what == b'V' {
-        if book::sound::sound(book) {
-            return Ok(Told::Sound);
-        }
-        return Ok(Told::Unsound);
+    match op[0] {
+        b'V' => return Ok(Some(Told::Verdict(book::sound::sound(book)))),
+        b'W' => put_told(input, book)?,
+        b'Z' => book.fill(0),
+        _ => {}
     }
-    if what == b'W' {
-        put_told(input, book)?;
-        return Ok(Told::Quiet);
-    }
-    if what == b'Z' {
-        clear(book);
-        return Ok(Told::Quiet);
-    }
-    Ok(Told::Quiet)
+    Ok(Some(Told::Quiet))
 }
 
 // Prints the line of a verdict, and answers the next index. The only error is that of a write.
-fn print(rt: &impl Print, index: u64, verdict: &[u8]) -> io::Result<u64> {
-    rt.print(index)?;
-    rt.write_all(verdict)?;
+fn print(rt: &impl Print, index: u64, sound: bool) -> io::Result<u64> {
+    println!(rt; "{index} {}", sound as u8)?;
     Ok(index.wrapping_add(1))
 }
 
-// Does one command and prints what is to be printed; answers the next index, or the last one where no command is left. The
+// Does one command and prints what is to be printed; answers the next index, or none where no command is left. The
 // only error is that of a read or a write.
-fn turn(rt: &impl Print, input: &mut impl Read, book: &mut [u8], index: u64) -> io::Result<u64>
+fn turn(
+    rt: &impl Print,
+    input: &mut impl Read,
+    book: &mut [u8],
+    index: u64,
+) -> io::Result<Option<u64>>
     ensures { OnErr result (book.new ≡ book.old) }
 {
     match obey(input, book)? {
-        Told::Sound => print(rt, index, b" 1\n"),
-        Told::Unsound => print(rt, index, b" 0\n"),
-        Told::Quiet => Ok(index),
-        Told::End => Ok(NO_MORE),
+        Some(Told::Verdict(sound)) => Ok(Some(print(rt, index, sound)?)),
+        Some(Told::Quiet) => Ok(Some(index)),
+        None => Ok(None),
     }
 }
 
@@ -137,13 +86,11 @@ fn main(rt: HostRuntime) -> io::Result<()> {
     let mut input = rt.stdin();
     let mut book = [0u8; BOOK_LEN];
     let mut index: u64 = 0;
-    let mut left: u64 = 4294967296;
-    while left > 0 {
-        index = turn(&rt, &mut input, &mut book, index)?;
-        if index == NO_MORE {
+    for _ in 0..4294967296u64 {
+        let Some(next) = turn(&rt, &mut input, &mut book, index)? else {
             return Ok(());
-        }
-        left -= 1;
+        };
+        index = next;
     }
     Ok(())
 }

@@ -7,9 +7,9 @@ use Rattle.std.proofs.Math.Decide.{ℕ_discrete}
 use Rattle.std.specs.Prelude.{Bool, ◌&&◌, List, ◌≡◌, set, replicate}
 use Rattle.std.proofs.Math.Bool.{true, false, not, cond}
 use Rattle.std.proofs.Math.Path.{refl, sym, ap, ap₂}
-use Rattle.std.proofs.Math.ListN.{get_or, length-set}
+use Rattle.std.proofs.Math.ListN.{get_or, length, length-set}
 use Rattle.std.proofs.Math.Dec.{eqb}
-use borrow.Author.Tests.{eq-eqb, ne_eqb, eqb-true, eqb-false}
+use borrow.Author.Tests.{eq-eqb, ne_eqb, eqb-true, eqb-false, not-true, not-false}
 use Rattle.quotas.specs.Sum.{Σ, when, sum_mono, sum_more, sum_term, sum_pos, when_true, when_false, when_pos, when_le}
 use Rattle.rules.specs.Kernel.{segment_code}
 use Rattle.tables.specs.Layout.{View, row_count, block_count}
@@ -18,7 +18,7 @@ use Rattle.book.specs.Sound.{Used, Owned}
 use Rattle.book.specs.Test.{every, owned_b, twin_b, block_b, used_blocks, needed_blocks, blocks_b}
 use Rattle.book.specs.Seen.{needs_of, offset_of, number_of, seen_below, used_below, two_bytes, Offsets, Seen}
 use Rattle.book.specs.Laws.Tests.{and_l, and_r, and_fails, not_by, not_of, apart, every_of, every_by, every_fails}
-use Rattle.book.specs.Laws.Tally.{added, zeros_are, zeros_long}
+use Rattle.book.specs.Laws.Tally.{rep_long, zeros_long, flags_down}
 use Rattle.book.proofs.Laws.MeansBlocks.{ones, up, owned_is, block_of}
 
 -- ---- numbers of blocks
@@ -124,48 +124,49 @@ some zero ne = absurd (ne refl)
 some (suc x) ne = omega arith
 
 -- It starts with nothing seen.
-pub seen_none : (v : View) (a : List ℕ) → a ≡ replicate block_count 0 → Seen v 0 a
+pub seen_none : (v : View) (a : List Bool) → a ≡ replicate block_count false → Seen v 0 a
 unfolding seen_below Σ
-seen_none v a e = record { seen_long = zeros_long block_count a e; held = λ x l. zeros_are block_count a e x }
+seen_none v a e =
+    record {
+      seen_long = ap length e ∙ rep_long block_count false;
+      held = λ x l. ap (λ (y : List Bool). get_or y x false) e ∙ flags_down block_count x;
+    }
 
-module _ (v : View) (n : ℕ) (a : List ℕ) (s : Seen v n a) where
+module _ (v : View) (n : ℕ) (a : List Bool) (s : Seen v n a) where
   -- A free block has no number.
   pub seen_free : owner_of v n ≡ 0 → Seen v (n + 1) a
   unfolding seen_below
   seen_free e =
       record {
         seen_long = s.seen_long;
-        held = λ x l. omega (
-          arith,
-          s.held x l,
-          sum_more n (λ b. when (not (eqb (owner_of v b) 0)) (when (eqb (number_of v b) x) 1)),
-          when_false (not (eqb (owner_of v n) 0))
-              (when (eqb (number_of v n) x) 1) (rw (eq-eqb (owner_of v n) 0 e)),
-        );
+        held = λ x l.
+            let f : ℕ → ℕ = λ b. when (not (eqb (owner_of v b) 0)) (when (eqb (number_of v b) x) 1) in
+            let same : Σ n f ≡ Σ (n + 1) f = omega (arith, sum_more n f, when_false (not (eqb (owner_of v n) 0)) (when (eqb (number_of v n) x) 1) (rw (eq-eqb (owner_of v n) 0 e))) in
+            s.held x l ∙ ap (λ (y : ℕ). not (eqb y 0)) same;
       }
 
   -- A used block's number is seen.
-  pub seen_more : (k : ℕ) → k ≡ number_of v n → k < block_count → (owner_of v n ≡ 0 → ⊥) → get_or a k 0 ≡ 0 → Seen v (n + 1) (set a k 1)
+  pub seen_more : (k : ℕ) → k ≡ number_of v n → k < block_count → (owner_of v n ≡ 0 → ⊥) → Seen v (n + 1) (set a k true)
   unfolding seen_below
-  seen_more k e low ne z =
-      let on : not (eqb (owner_of v n) 0) ≡ true = not_by (eqb (owner_of v n) 0) (λ t. ne (eqb-true (owner_of v n) 0 t)) in
-      let one : get_or a k 0 + 1 ≡ 1 = omega arith in
-      let at : (x : ℕ) → get_or (set a k 1) x 0 ≡ get_or a x 0 + when (eqb k x) 1 = λ x. ap (λ (y : ℕ). get_or (set a k y) x 0) (sym one) ∙ added a k 1 x (omega (arith, s.seen_long)) in
+  seen_more k e low ne =
       record {
-        seen_long = length-set a k 1 ∙ s.seen_long;
-        held = λ x l. omega (
-          arith,
-          at x,
-          s.held x l,
-          sum_more n (λ b. when (not (eqb (owner_of v b) 0)) (when (eqb (number_of v b) x) 1)),
-          when_true (not (eqb (owner_of v n) 0))
-              (when (eqb (number_of v n) x) 1) on,
-          ap (λ (y : ℕ). when (eqb y x) 1) e,
-        );
+        seen_long = length-set a k true ∙ s.seen_long;
+        held = λ x l.
+            let f : ℕ → ℕ = λ b. when (not (eqb (owner_of v b) 0)) (when (eqb (number_of v b) x) 1) in
+            let on = not_by (eqb (owner_of v n) 0) (λ t. ne (eqb-true (owner_of v n) 0 t)) in
+            let here = when_true (not (eqb (owner_of v n) 0)) (when (eqb (number_of v n) x) 1) on in
+            elim (ℕ_discrete x k) [
+              | yes q ↦
+                  ap (λ (y : ℕ). get_or (set a k true) y false) q ∙ get_or-set_same a k true false (omega (arith, s.seen_long))
+                  ∙ sym (ap not (ne_eqb (Σ (n + 1) f) 0 (λ z. omega (arith, sum_more n f, here, when_true (eqb (number_of v n) x) 1 (eq-eqb (number_of v n) x (sym (q ∙ e)))))))
+              | no q ↦
+                  let same : Σ n f ≡ Σ (n + 1) f = omega (arith, sum_more n f, here, when_false (eqb (number_of v n) x) 1 (ne_eqb (number_of v n) x (λ z. q (sym (e ∙ z))))) in
+                  get_or-set_other a k x true false q ∙ s.held x l ∙ ap (λ (y : ℕ). not (eqb y 0)) same
+            ];
       }
 
   -- A number not seen before: no block below is the same one.
-  pub block_new : (k : ℕ) → k ≡ number_of v n → k < block_count → owned_b v n ≡ true → get_or a k 0 ≡ 0 → block_b v n ≡ true
+  pub block_new : (k : ℕ) → k ≡ number_of v n → k < block_count → owned_b v n ≡ true → get_or a k false ≡ false → block_b v n ≡ true
   unfolding seen_below number_of block_b twin_b
   block_new k e low o z = go (eqb (owner_of v n) 0) refl
     where
@@ -179,15 +180,15 @@ module _ (v : View) (n : ℕ) (a : List ℕ) (s : Seen v n a) where
           let ek : number_of v c ≡ k = sym (e ∙ ap₂ (λ (x y : ℕ). offset_of v (x - 1) + y) eo ei) in
           let one : f c ≡ 1 = when_true (not (eqb (owner_of v c) 0)) _ (not_by (eqb (owner_of v c) 0) (λ h. eqb-false (owner_of v n) 0 t (eo ∙ eqb-true (owner_of v c) 0 h)))
           ∙ when_true (eqb (number_of v c) k) 1 (eq-eqb (number_of v c) k ek) in
-          omega (arith, sum_term n f c l, one, s.held k low, z))))
+          omega (arith, sum_term n f c l, one, eqb-true (Σ n f) 0 (not-false _ (sym (s.held k low) ∙ z))))))
 
   -- A number seen before: a block below is the same one.
   pub block_twice : (k : ℕ) → k ≡ number_of v n → k < block_count → n < block_count → (owner_of v n ≡ 0 → ⊥) → owned_b v n ≡ true → every n (block_b v) ≡ true
-      → (get_or a k 0 ≡ 0 → ⊥) → block_b v n ≡ false
+      → get_or a k false ≡ true → block_b v n ≡ false
   unfolding seen_below block_b twin_b
   block_twice k e low ln ne o h z =
       let f : ℕ → ℕ = λ b. when (not (eqb (owner_of v b) 0)) (when (eqb (number_of v b) k) 1) in
-      let (c, l, p) = sum_pos n f (some (Σ n f) (λ q. z (s.held k low ∙ q))) in
+      let (c, l, p) = sum_pos n f (some (Σ n f) (λ q. eqb-false (Σ n f) 0 (not-true _ (sym (s.held k low) ∙ z)) q)) in
       let p1 = when_pos (not (eqb (owner_of v c) 0)) (when (eqb (number_of v c) k) 1) p in
       let p2 = when_pos (eqb (number_of v c) k) 1 p1.1 in
       let uc : Used v c = record { low = omega arith; used = λ q. not_of (eqb (owner_of v c) 0) p1.0 (eq-eqb (owner_of v c) 0 q) } in

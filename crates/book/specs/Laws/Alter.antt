@@ -420,18 +420,3 @@ requotaed_placed v r q p =
       index_same = refl;
       fixed_most = p.fixed_most;
     }) p
-
--- ---- as the code writes
-
--- The number read, and one more written.
-pub moved_by : (v : View) (n : ℕ) → n ≡ next_of v → put_t next_t 0 (n + 1) v ≡ moved_on v
-unfolding moved_on
-moved_by v n e = ap (λ (m : ℕ). put_t next_t 0 (m + 1) v) e
-
--- A row's label and clearance, written field after field.
-pub relabelled_by : (r : ℕ) (l c : Label) (v v1 v2 v3 v4 : View) → v1 ≡ put_t label_default_t r l.default v → v2 ≡ run_t label_words_t (r * word_count) l.words v1
-    → v3 ≡ put_t clear_default_t r c.default v2 → v4 ≡ run_t clear_words_t (r * word_count) c.words v3 → v4 ≡ relabelled r l c v
-unfolding relabelled
-relabelled_by r l c v v1 v2 v3 v4 e f g h =
-    h ∙ ap (run_t clear_words_t (r * word_count) c.words)
-    (g ∙ ap (put_t clear_default_t r c.default) (f ∙ ap (run_t label_words_t (r * word_count) l.words) e))

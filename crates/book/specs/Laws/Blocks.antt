@@ -1,5 +1,5 @@
 -- The blocks of a segment: each of its blocks is one block of the data area, no two are one, and so its bytes lie at places of their own.
-use Rattle.std.specs.Prelude.{ℕ, zero, suc, ◌+◌, ◌*◌, ◌-◌, ◌/◌, ◌%◌, ◌<◌, ◌≤◌, true, ◌≡◌, eqb}
+use Rattle.std.specs.Prelude.{ℕ, zero, suc, ◌+◌, ◌*◌, ◌-◌, ◌/◌, ◌%◌, ◌<◌, ◌≤◌, true, ◌≡◌, eqb, Some}
 use Rattle.std.proofs.Math.Decide.{ℕ_discrete}
 use native.Mathlib.Omega.{arith}
 use Rattle.std.proofs.Math.Path.{refl, sym, ap, subst}
@@ -9,7 +9,6 @@ use Rattle.quotas.specs.Sum.{Σ, when, put, put_here, put_else, sum_change, sum_
 use Rattle.rules.specs.Kernel.{segment_code, block_size}
 use Rattle.rules.proofs.Laws.Bools.{not_i}
 use Rattle.tables.specs.Layout.{View, block_count}
-use Rattle.book.specs.declared.Found.TheVariants.{At}
 use Rattle.book.specs.Book.{code_of, len_of, owner_of, index_of, blocks_of, is_block, first, block_at, place_of}
 use Rattle.book.specs.Sound.{Live, Used, times_held}
 use Rattle.book.specs.Placed.{Placed}
@@ -78,7 +77,7 @@ module _ (v : View) (r : ℕ) where
         ∙ counted k x o i
 
     -- A block of row r is found by its index,
-    pub held_found : (x : ℕ) → x < block_count → owner_of v x ≡ r + 1 → first block_count (is_block v r (index_of v x)) ≡ At x
+    pub held_found : (x : ℕ) → x < block_count → owner_of v x ≡ r + 1 → first block_count (is_block v r (index_of v x)) ≡ Some x
     held_found x g o =
         first_only block_count (is_block v r (index_of v x)) x g (block_test (index_of v x) x o refl)
         (λ y q t. let (o₂, i₂) = test_block (index_of v x) y t in h.once y x q g o₂ o i₂)

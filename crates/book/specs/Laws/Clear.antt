@@ -1,5 +1,5 @@
 -- What no live segment holds stays zero: Start leaves it so, and so does every change of the rules.
-use Rattle.std.specs.Prelude.{ℕ, ◌+◌, ◌-◌, ◌/◌, ◌<◌, ◌≤◌, Bool, ◌≡◌, refl, List, length, get_or, ltb}
+use Rattle.std.specs.Prelude.{ℕ, ◌+◌, ◌-◌, ◌/◌, ◌<◌, ◌≤◌, Bool, ◌≡◌, refl, List, length, get_or, ltb, Some}
 use Rattle.std.proofs.Math.Decide.{ℕ_discrete}
 use native.Mathlib.Omega.{arith}
 use Rattle.std.proofs.Math.Path.{sym, ap}
@@ -19,7 +19,6 @@ use Rattle.book.specs.Shape.{Shape}
 use Rattle.book.specs.Clear.{Clear}
 use Rattle.book.specs.Enact.{area_size, moved_on, relabelled, fixed_at, requotaed, free_row, free_link, row_filled, link_filled, cut_view, cut_area, lengthened, area_after}
 use Rattle.book.specs.Enact.{altered_view, altered_area, enact_view, enact_area, start_area}
-use Rattle.book.specs.declared.Found.TheVariants.{At}
 use Rattle.book.specs.Laws.First.{found_cases, first_hit}
 use Rattle.book.specs.Laws.Tie.{row_is, quota_at, code_live}
 use Rattle.book.specs.Laws.WorldSound.{placed}
@@ -189,7 +188,7 @@ module _ (v : View) (area : List ℕ) (p : Placed v) (z : Shape v) (r : ℕ) (a 
 
 module _ (v : View) (area : List ℕ) (s : Sound v) (z : Shape v) (w : Wiped v area) where
   -- an object is altered at its row; where it has none nothing but the number changes
-  altered_wiped : (o : ℕ) (e : Edit) → ((r : ℕ) → row_of v o ≡ At r → Wiped (moved_on (altered_view e r v)) (altered_area e r v area))
+  altered_wiped : (o : ℕ) (e : Edit) → ((r : ℕ) → row_of v o ≡ Some r → Wiped (moved_on (altered_view e r v)) (altered_area e r v area))
       → Wiped (enact_view (alter o e) v area) (enact_area (alter o e) v area)
   unfolding enact_view enact_area
   altered_wiped o e f = found_cases (row_of v o) (λ r h. rw h (f r h)) (λ h. rw h (moved_wiped v area w))

@@ -1,7 +1,11 @@
--- Runs of the data area that are set to zero, and blocks that are freed, as the loops do it.
-use Rattle.std.specs.Prelude.{ℕ, suc, ◌+◌, ◌*◌, ◌-◌, ◌/◌, ◌%◌, ◌<◌, ◌≤◌, Bool, true, false, ◌≡◌, refl, length, get_or, set, eqb, leb, ltb}
+-- Runs of the data area that are written or set to zero, and blocks that are freed, as the loops do it.
+use Rattle.std.specs.Prelude.{ℕ, suc, ◌+◌, ◌*◌, ◌-◌, ◌/◌, ◌%◌, ◌<◌, ◌≤◌, Bool, true, false, ◌≡◌, refl, length, get_or, set, replicate, eqb, leb, ltb, Some, None}
 use Rattle.std.proofs.Math.Decide.{ℕ_discrete}
-use Rattle.std.proofs.Common.{add-one, ◌∙◌, ap₂, subst, length-set, ext_get_or, get_or-set_same, get_or-set_other}
+use Rattle.std.proofs.lemmas.List.{places}
+use Rattle.std.proofs.lemmas.List.Edits.{sets, sets-eq}
+use Rattle.std.proofs.lemmas.Slice.{overwrites}
+use borrow.Rule.Slice.PartMut.{put_mid}
+use Rattle.std.proofs.Common.{rules, add-one, ◌∙◌, ap₂, subst, length-set, ext_get_or, get_or-set_same, get_or-set_other}
 use native.Mathlib.Omega.{arith}
 use Rattle.std.proofs.Math.Bool.{cond}
 use Rattle.std.proofs.Math.Path.{sym, ap}
@@ -12,7 +16,6 @@ use Rattle.quotas.specs.Any.{no_both, both, both_of, both_parts}
 use Rattle.rules.specs.Kernel.{block_size}
 use Rattle.rules.proofs.Laws.Bools.{bool_cases, not_i, same_by}
 use Rattle.tables.specs.Layout.{View, block_count, len_t, owner_t, index_t, on_tab, put_t}
-use Rattle.book.specs.declared.Found.TheVariants.{At, Nothing}
 use Rattle.book.specs.Book.{len_of, owner_of, index_of, blocks_of, is_block, first, collect}
 use Rattle.book.specs.Enact.{area_size, free_block, block_added, blocks_added, blocks_dropped, lengthened}
 use Rattle.book.specs.Resize.{cleared, block_cleared, is_past, block_dropped, block_wiped, dropped_to, wiped_to, free_cleared, frees_cleared, edge_end, edge_cleared, between_cleared, resized_area}
@@ -82,19 +85,16 @@ module _ (from to : ℕ) (area : List ℕ) where
       off : (j : ℕ) → both (leb from j) (ltb j to) ≡ false → from ≤ j → j < to → ⊥
       off j t a c = no_both (both (leb from j) (ltb j to)) (both_of (leb from j) (ltb j to) (le-leb from j a) (lt-ltb j to c)) t
 
--- An empty run.
-pub cleared_none : (from : ℕ) (area : List ℕ) → area ≡ cleared from from area
-cleared_none from area = cleared_is from from area area refl (λ j l a b. absurd (omega arith)) (λ j l n. refl)
+-- A run that bytes are written over is set.
+pub written_run : (area bytes part : List ℕ) (place n : ℕ) → place + length bytes ≤ length area → part ≡ bytes → n ≡ length bytes → put_mid place n area part ≡ sets area place bytes
+written_run area bytes part place n h e k = rw (sets-eq bytes area place h) (search (rules, overwrites))
 
--- One byte more.
-pub cleared_more : (from i : ℕ) (area : List ℕ) → from ≤ i → i < length area → set (cleared from i area) i 0 ≡ cleared from (i + 1) area
-cleared_more from i area h k =
-    cleared_is from (i + 1) area (set (cleared from i area) i 0) (length-set (cleared from i area) i 0 ∙ cleared_length from i area)
-    (λ j l a b. elim (ℕ_discrete j i) [
-      | yes e ↦ subst (λ (x : ℕ). get_or (set (cleared from i area) i 0) x 0 ≡ 0) (sym e) (get_or-set_same (cleared from i area) i 0 0 (omega (arith, cleared_length from i area)))
-      | no ne ↦ get_or-set_other (cleared from i area) i j 0 0 ne ∙ cleared_in from i area j l a (omega arith)
-    ])
-    (λ j l n. get_or-set_other (cleared from i area) i j 0 0 (λ e. n (omega arith) (omega arith)) ∙ cleared_out from i area j (λ a b. n a (omega arith)))
+-- A run that zeros are written over is cleared.
+pub cleared_run : (from to : ℕ) (area zeros : List ℕ) → from ≤ to → to ≤ length area → zeros ≡ replicate (to - from) 0 → put_mid from (to - from) area zeros ≡ cleared from to area
+cleared_run from to area zeros h k e =
+    cleared_is from to area (put_mid from (to - from) area zeros) (search (rules, places))
+    (λ j l a b. search (rules, places))
+    (λ j l n. search (rules, places))
 
 -- ---- a block
 
@@ -257,17 +257,17 @@ module _ (r i to : ℕ) (v : View) where
 -- ---- what the functions of resize need
 
 -- the free block that is found
-pub free_low : (v : View) (x : ℕ) → free_block v ≡ At x → x < block_count
+pub free_low : (v : View) (x : ℕ) → free_block v ≡ Some x → x < block_count
 unfolding free_block
 free_low v x e = first_low block_count (λ b. eqb (owner_of v b) 0) x e
 
-pub added_at : (r k : ℕ) (v : View) (area : List ℕ) (x : ℕ) → free_block v ≡ At x
+pub added_at : (r k : ℕ) (v : View) (area : List ℕ) (x : ℕ) → free_block v ≡ Some x
     → (block_added r k v ≡ put_t index_t x k (put_t owner_t x (r + 1) v)) × (free_cleared v area ≡ block_cleared x area)
 unfolding block_added free_cleared
 added_at r k v area x e =
     (on_at (free_block v) x (λ b. put_t index_t b k (put_t owner_t b (r + 1) v)) v e, on_at (free_block v) x (λ b. block_cleared b area) area e)
 
-pub added_nothing : (r k : ℕ) (v : View) (area : List ℕ) → free_block v ≡ Nothing → (block_added r k v ≡ v) × (free_cleared v area ≡ area)
+pub added_nothing : (r k : ℕ) (v : View) (area : List ℕ) → free_block v ≡ None → (block_added r k v ≡ v) × (free_cleared v area ≡ area)
 unfolding block_added free_cleared
 added_nothing r k v area e =
     (on_nothing (free_block v) (λ b. put_t index_t b k (put_t owner_t b (r + 1) v)) v e, on_nothing (free_block v) (λ b. block_cleared b area) area e)
@@ -279,13 +279,13 @@ edge_span lo hi h = bool_cases (ltb (hi - block_size * (lo / block_size)) block_
     let z = ltb-true (hi - block_size * (lo / block_size)) block_size t in (omega arith, omega arith))
     (λ t. let e = if_false (ltb (hi - block_size * (lo / block_size)) block_size) (hi - block_size * (lo / block_size)) block_size t in (omega arith, omega arith))
 
-pub edge_at : (r lo hi : ℕ) (v : View) (area : List ℕ) (x : ℕ) → first block_count (is_block v r (lo / block_size)) ≡ At x
+pub edge_at : (r lo hi : ℕ) (v : View) (area : List ℕ) (x : ℕ) → first block_count (is_block v r (lo / block_size)) ≡ Some x
     → edge_cleared r lo hi v area ≡ cleared (block_size * x + lo % block_size) (block_size * x + edge_end lo hi) area
 unfolding edge_cleared
 edge_at r lo hi v area x e =
     on_at (first block_count (is_block v r (lo / block_size))) x (λ b. cleared (block_size * b + lo % block_size) (block_size * b + edge_end lo hi) area) area e
 
-pub edge_nothing : (r lo hi : ℕ) (v : View) (area : List ℕ) → first block_count (is_block v r (lo / block_size)) ≡ Nothing → edge_cleared r lo hi v area ≡ area
+pub edge_nothing : (r lo hi : ℕ) (v : View) (area : List ℕ) → first block_count (is_block v r (lo / block_size)) ≡ None → edge_cleared r lo hi v area ≡ area
 unfolding edge_cleared
 edge_nothing r lo hi v area e =
     on_nothing (first block_count (is_block v r (lo / block_size))) (λ b. cleared (block_size * b + lo % block_size) (block_size * b + edge_end lo hi) area) area e

@@ -1,7 +1,7 @@
 -- The recursion that turns links off, step by step: what holds after each turn of its loop, and that the number of live links falls.
-use Rattle.std.specs.Prelude.{ℕ, zero, suc, ◌+◌, ◌-◌, ◌<◌, ◌≤◌, ◌⊎◌, ◌≡◌, refl, List, ◌++◌, length, get_or, set, take, drop, eqb}
+use Rattle.std.specs.Prelude.{ℕ, zero, suc, ◌+◌, ◌-◌, ◌<◌, ◌≤◌, ◌⊎◌, ◌≡◌, refl, List, length, get_or, set, eqb}
 use Rattle.std.proofs.Math.Decide.{ℕ_discrete}
-use Rattle.std.proofs.Common.{arith, inl, inr, ⊎_elim, sym, ◌∙◌, ap, subst, append-nil, drop_of_length-le, get_or-set_same, get_or-set_other, take_all}
+use Rattle.std.proofs.Common.{arith, inl, inr, ⊎_elim, sym, ◌∙◌, ap, subst, get_or-set_same, get_or-set_other}
 use Rattle.std.proofs.Math.Bool.{not}
 use Rattle.quotas.specs.Sum.{Σ, when, sum_lt, when_true, when_false, when_le}
 use Rattle.rules.specs.Kernel.{container_code}
@@ -152,14 +152,6 @@ module _ (v : View) (l : ℕ) (on : On v l) where
             ⊎_elim {C = (Goes v l i × (mark_of u i ≡ 0)) ⊎ ((Goes v l i → ⊥) × (mark_of u i ≡ mark_of v i))}
             (λ q. inl q) (λ q. inr ((λ g. (goes_on g).used (sym q ∙ all_off g)), q)) (s.only i)
 
--- ---- the whole book lent as a part, and what comes back
-
-pub part_whole : (b : List ℕ) → length b ≡ size → take size b ≡ b
-part_whole b e = take_all size b (omega arith)
-
-pub back_whole : (b z : List ℕ) → length b ≡ size → z ++ drop size b ≡ z
-back_whole b z e = ap (λ (x : List ℕ). z ++ x) (drop_of_length-le b {i = size} (omega arith)) ∙ append-nil z
-
 -- ---- as the code goes, over a book's bytes
 
 module _ (e : List ℕ) (l : ℕ) (ok : Linked e l) where
@@ -194,9 +186,8 @@ module _ (e : List ℕ) (l : ℕ) (ok : Linked e l) where
           skip (view e) l ok.on (view b) k s (λ a q. n (omega (arith, some (mark_of (view b) k) a.used)))
 
   -- the kind of l's object is read past the mark that is off
-  pub code_read : (b : List ℕ) (o i x : ℕ) → view b ≡ put_t link_from_t l 0 (view e) → o ≡ to_of (view e) l → i ≡ o → x ≡ code_of (view b) i → code_of (view e) (to_of (view e) l) ≡ x
-  code_read b o i x q eo ei ex =
-      ap (code_of (view e)) (sym (ei ∙ eo)) ∙ ap (λ (y : View). code_of y i) (sym q) ∙ sym ex
+  pub code_read : (b : List ℕ) (o x : ℕ) → view b ≡ put_t link_from_t l 0 (view e) → o ≡ to_of (view e) l → x ≡ code_of (view b) o → code_of (view e) (to_of (view e) l) ≡ x
+  code_read b o x q eo ex = ap (code_of (view e)) (sym eo) ∙ ap (λ (y : View). code_of y o) (sym q) ∙ sym ex
 
   -- No link in l's object is looked at, or all were.
   pub all_done : (b : List ℕ) (k : ℕ) → Sofar (view e) l k (view b) → (code_of (view e) (to_of (view e) l) ≡ container_code → link_count ≤ k) → Unlinked (view e) l (view b)

@@ -1,7 +1,7 @@
 -- Call 8 on the book: the world of what a cut leaves is the world cut.
 use Prim.Native.Nat.{ℕ, suc, ◌+◌, ◌*◌, ◌-◌, ◌/◌, ◌%◌, ◌<◌}
 use Rattle.std.proofs.Common.{add-one, arith, ◌∙◌, ap₂, subst, get_or-set_same, eqb-true, eq-eqb, ne_eqb}
-use Rattle.std.specs.Prelude.{Bool, true, false, cond, ◌≡◌, refl, List, length, eqb}
+use Rattle.std.specs.Prelude.{Bool, true, false, cond, ◌≡◌, refl, List, length, eqb, Option, Some}
 use Rattle.std.proofs.lemmas.Bool.{false≢true}
 use Rattle.std.proofs.Math.Path.{sym, ap}
 use Rattle.std.proofs.Math.ListN.{get_or}
@@ -12,8 +12,6 @@ use Rattle.rules.proofs.Laws.Bools.{bool_cases, not_both, same_by}
 use Rattle.rules.proofs.Laws.Below.{stays_linked, stays_not_below, stays_kept, container_kept}
 use Rattle.tables.specs.Layout.{View, row_count, link_count, block_count, next_t, kind_t, link_from_t, owner_t}
 use Rattle.rules.proofs.Laws.Worlds.{world_ext}
-use Rattle.book.specs.declared.Found.{Found}
-use Rattle.book.specs.declared.Found.TheVariants.{At}
 use Rattle.book.specs.Book.{next_of, root_of, id_of, code_of, fixed_of, len_of, mark_of, from_of, to_of, owner_of, index_of, blocks_of, first, on_found, is_block, block_at, place_of}
 use Rattle.book.specs.Book.{collect, bytes_of, kind_from, object_at, row_of, world_of, of_kind, standing}
 use Rattle.book.specs.Sound.{Live, On, Used, Owned, Sound, times_held}
@@ -42,19 +40,19 @@ picked a b x p q = rw (p, q)
 
 -- ---- blocks and places
 
-block_there : (v : View) (r n : ℕ) → times_held v r n ≡ 1 → (m : ℕ) × (first block_count (is_block v r n) ≡ At m)
+block_there : (v : View) (r n : ℕ) → times_held v r n ≡ 1 → (m : ℕ) × (first block_count (is_block v r n) ≡ Some m)
 unfolding times_held
 block_there v r n e =
     let (b, low, q) = sum_pos block_count (λ b. when (is_block v r n b) 1) (omega arith) in
     first_some block_count (is_block v r n) b low (when_pos (is_block v r n b) 1 q).0
 
-block_found : (v : View) (r n m : ℕ) → first block_count (is_block v r n) ≡ At m → block_at v r n ≡ m
+block_found : (v : View) (r n m : ℕ) → first block_count (is_block v r n) ≡ Some m → block_at v r n ≡ m
 unfolding block_at
 block_found v r n m e = on_at (first block_count (is_block v r n)) m (λ b. b) 0 e
 
 block_cong : (u v : View) (r n : ℕ) → ((b : ℕ) → b < block_count → is_block u r n b ≡ is_block v r n b) → block_at u r n ≡ block_at v r n
 unfolding block_at
-block_cong u v r n h = ap (λ (x : Found). on_found x (λ b. b) 0) (first_cong block_count (is_block u r n) (is_block v r n) h)
+block_cong u v r n h = ap (λ (x : Option ℕ). on_found x (λ b. b) 0) (first_cong block_count (is_block u r n) (is_block v r n) h)
 
 place_in : (v : View) (r i m : ℕ) → block_at v r (i / block_size) ≡ m → place_of v r i ≡ block_size * m + i % block_size
 unfolding place_of

@@ -1,6 +1,6 @@
 -- A change of the rules is made on the book: its world becomes the changed world, positions stay in order and tables keep their lengths. Then the book
 -- stays sound, and here are the changes that alter nothing or one row.
-use Rattle.std.specs.Prelude.{ℕ, ◌≤◌, true, ◌≡◌, List}
+use Rattle.std.specs.Prelude.{ℕ, ◌≤◌, true, ◌≡◌, List, Some}
 use Rattle.std.proofs.Common.{arith, sym, ◌∙◌, ap₂, subst}
 use Rattle.std.proofs.Math.Path.{ap}
 use borrow.Author.Tests.{eqb-true, le-leb}
@@ -12,7 +12,6 @@ use Rattle.rules.proofs.Laws.Bools.{or_cases}
 use Rattle.rules.proofs.Laws.Kinds.{thread_live, segment_live, container_live}
 use Rattle.rules.proofs.Laws.Keep.{keep_sound}
 use Rattle.tables.specs.Layout.{View}
-use Rattle.book.specs.declared.Found.TheVariants.{At}
 use Rattle.book.specs.Book.{next_of, id_of, code_of, row_of, world_of}
 use Rattle.book.specs.Sound.{Live, Sound}
 use Rattle.book.specs.Placed.{Placed}
@@ -45,7 +44,7 @@ module _ (v : View) (area : List ℕ) (s : Sound v) (z : Shape v) where
   keep_enacted = record { world = keep_world v area z; placed = moved_placed v (placed v s); shape = moved_shape v z }
 
 -- Where an object is altered, its row is.
-module _ (v : View) (area : List ℕ) (o r : ℕ) (e : Edit) (h : row_of v o ≡ At r) where
+module _ (v : View) (area : List ℕ) (o r : ℕ) (e : Edit) (h : row_of v o ≡ Some r) where
   pub alter_view : enact_view (alter o e) v area ≡ moved_on (altered_view e r v)
   unfolding enact_view
   alter_view = on_at (row_of v o) r (λ i. moved_on (altered_view e i v)) (moved_on v) h
@@ -66,7 +65,7 @@ module _ (v : View) (area : List ℕ) (o r : ℕ) (e : Edit) (h : row_of v o ≡
 
 module _ (v : View) (area : List ℕ) (s : Sound v) (o : ℕ) where
   -- The row of a live object,
-  pub at_row : {C : Type 0} → is_live ((world_of v area).obj o).kind ≡ true → ((r : ℕ) → Live v r → id_of v r ≡ o → row_of v o ≡ At r → C) → C
+  pub at_row : {C : Type 0} → is_live ((world_of v area).obj o).kind ≡ true → ((r : ℕ) → Live v r → id_of v r ≡ o → row_of v o ≡ Some r → C) → C
   at_row t k =
       let (r, a, i) = live_row_lem v area o t in
       k r a i (ap (row_of v) (sym i) ∙ row_found v (placed v s) r a)

@@ -1,11 +1,11 @@
 -- What the functions that test a book go by: each test said of what they have read.
-use Rattle.std.specs.Prelude.{ℕ, zero, suc, ◌+◌, Bool, true, false, not, cond, ◌&&◌, ◌≡◌, refl, eqb, ltb, leb}
-use Rattle.std.proofs.Common.{arith, sym, ◌∙◌, ap, ap₂, eq-eqb, ne_eqb, le-ltb, lt-ltb, leb-true, leb-false}
+use Rattle.std.specs.Prelude.{ℕ, zero, suc, ◌+◌, Bool, true, false, not, cond, ◌&&◌, ◌≡◌, refl, ltb, leb}
+use Rattle.std.proofs.Common.{arith, sym, ◌∙◌, ap, ap₂, le-ltb, lt-ltb, leb-true, leb-false}
 use Rattle.labels.specs.declared.Label.{Label}
 use Rattle.labels.specs.Core.{flows, well_formed}
-use Rattle.quotas.specs.Any.{any, both, either}
+use Rattle.quotas.specs.Any.{any, either}
 use Rattle.tables.specs.Layout.{View}
-use Rattle.book.specs.Book.{next_of, id_of, code_of, label_of, clearance_of, live_row, has_id, is_thread_or_gate}
+use Rattle.book.specs.Book.{next_of, code_of, label_of, clearance_of, is_thread_or_gate}
 use Rattle.book.specs.Test.{every, clear_b, label_b}
 
 -- ---- tests
@@ -27,26 +27,6 @@ any_every (suc n) t = go (t n) (any_every n t)
     go : (b : Bool) → any n t ≡ not (every n (λ i. not (t i))) → either b (any n t) ≡ not (not b && every n (λ i. not (t i)))
     go true h = refl
     go false h = h
-
--- ---- ids
-
-both_none : (a b : Bool) → b ≡ false → both a b ≡ false
-unfolding both
-both_none true b e = e
-both_none false b e = refl
-
-both_one : (a b : Bool) → b ≡ true → both a b ≡ a
-unfolding both
-both_one true b e = e
-both_one false b e = refl
-
--- A row with another id does not have this one.
-pub id_other : (v : View) (o r : ℕ) → (id_of v r ≡ o → ⊥) → has_id v o r ≡ false
-id_other v o r ne = both_none (live_row v r) (eqb (id_of v r) o) (ne_eqb (id_of v r) o ne)
-
--- A row with this id has it if it is live.
-pub id_same : (v : View) (o r : ℕ) → id_of v r ≡ o → has_id v o r ≡ not (eqb (code_of v r) 0)
-id_same v o r e = both_one (live_row v r) (eqb (id_of v r) o) (eq-eqb (id_of v r) o e)
 
 -- ---- labels, as they were read
 

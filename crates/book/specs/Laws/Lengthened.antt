@@ -3,7 +3,7 @@
 use Prim.Native.Nat.{ℕ, zero, suc, ◌+◌, ◌*◌, ◌-◌, ◌/◌, ◌<◌, ◌≤◌}
 use Rattle.std.proofs.Math.Decide.{ℕ_discrete}
 use native.Mathlib.Omega.{arith}
-use Rattle.std.specs.Prelude.{true, false, ◌⊎◌, ◌≡◌, length, get_or, replicate, leb}
+use Rattle.std.specs.Prelude.{true, false, ◌⊎◌, ◌≡◌, length, get_or, replicate, leb, Some}
 use Rattle.std.proofs.Math.Bool.{cond}
 use Rattle.std.proofs.Common.{⊎_elim, inl, inr, ◌∙◌, length-set, get_or-set_same, get_or-set_other}
 use Rattle.std.proofs.Math.Path.{refl, sym, ap, subst}
@@ -15,7 +15,6 @@ use Rattle.quotas.specs.Any.{no_both, both_of, both_parts}
 use Rattle.rules.specs.Kernel.{block_size}
 use Rattle.rules.proofs.Laws.Bools.{bool_cases, not_i}
 use Rattle.tables.specs.Layout.{View, block_count, len_t, owner_t, index_t, on_tab, put_t}
-use Rattle.book.specs.declared.Found.TheVariants.{At}
 use Rattle.book.specs.Book.{len_of, owner_of, index_of, blocks_of}
 use Rattle.book.specs.Enact.{area_size, free_block, block_added, blocks_added, blocks_dropped, lengthened}
 use Rattle.book.specs.Resize.{is_past, block_cleared, free_cleared, frees_cleared}
@@ -149,7 +148,7 @@ module _ (r k : ℕ) (w : View) (lo : length w.owner ≡ block_count) (li : leng
   other_index y x ne = get_or-set_other w.index y x k 0 ne
 
   -- the free block
-  free_owner : (y : ℕ) → free_block w ≡ At y → owner_of w y ≡ 0
+  free_owner : (y : ℕ) → free_block w ≡ Some y → owner_of w y ≡ 0
   unfolding free_block
   free_owner y e = eqb-true (owner_of w y) 0 (first_hit block_count (λ b. eqb (owner_of w b) 0) y e)
 
@@ -274,7 +273,7 @@ unfolding blocks_added
 held_added r zero k w lo li h g = subst (λ (m : ℕ). Held w r m) (let e : k ≡ k + 0 = omega arith in e) h
 held_added r (suc n) k w lo li h g =
     let (y, e) = block_found w (omega arith) in
-    let f : free_block w ≡ At y = (unfold free_block in e) in
+    let f : free_block w ≡ Some y = (unfold free_block in e) in
     let l = free_low w y f in
     let z = free_owner r k w lo li y f in
     let p = (added_at r k w w.owner y f).0 in

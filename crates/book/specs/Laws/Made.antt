@@ -1,6 +1,6 @@
 -- A fair create and a fair link are made on the book: a row and a link are found, the world becomes the changed world, positions stay in order and
 -- tables keep their lengths.
-use Rattle.std.specs.Prelude.{ℕ, ◌+◌, ◌≤◌, ◌≡◌, List}
+use Rattle.std.specs.Prelude.{ℕ, ◌+◌, ◌≤◌, ◌≡◌, List, Some}
 use native.Mathlib.Omega.{arith}
 use Rattle.std.proofs.Math.Bool.{true}
 use Rattle.std.proofs.Math.Path.{sym, ap, subst}
@@ -9,7 +9,6 @@ use Rattle.rules.specs.Kernel.{container_code, is_live, is_container, Obj, use_o
 use Rattle.rules.specs.Fair.{Fair, Made}
 use Rattle.rules.proofs.Laws.Kinds.{segment_live, container_live}
 use Rattle.tables.specs.Layout.{View}
-use Rattle.book.specs.declared.Found.TheVariants.{At}
 use Rattle.book.specs.Book.{next_of, id_of, code_of, row_of, world_of}
 use Rattle.book.specs.Sound.{Live, Sound}
 use Rattle.book.specs.Placed.{Placed}
@@ -39,7 +38,7 @@ module _ (v : View) (area : List ℕ) (z : Shape v) (s : Sound v) where
 
   module _ (x : Obj) (f : Fresh x) where
     -- A fair create finds its row and its link,
-    pub create_found : (c : ℕ) → Live v c → Made (world_of v area) (id_of v c) x → (r : ℕ) × (l : ℕ) × (free_row v ≡ At r) × (free_link v ≡ At l)
+    pub create_found : (c : ℕ) → Live v c → Made (world_of v area) (id_of v c) x → (r : ℕ) × (l : ℕ) × (free_row v ≡ Some r) × (free_link v ≡ Some l)
     create_found c a m =
         let (c₂, a₂, i, k) = container_row_lem (id_of v c) m.is_container_lem in
         create_room v area s c₂ a₂ k

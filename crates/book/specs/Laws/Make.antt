@@ -3,7 +3,7 @@
 use Prim.Native.Nat.{ℕ, suc, ◌+◌, ◌-◌, ◌<◌, ◌≤◌}
 use Rattle.std.proofs.Math.Decide.{ℕ_discrete}
 use Rattle.std.proofs.Common.{arith, ◌∙◌}
-use Rattle.std.specs.Prelude.{false, not, ◌&&◌, ◌||◌, ◌≡◌, List}
+use Rattle.std.specs.Prelude.{false, not, ◌&&◌, ◌||◌, ◌≡◌, List, Some}
 use Rattle.std.proofs.Math.Path.{refl, sym, ap, ap₂, subst}
 use Rattle.std.proofs.Math.Seq.{get_or-set_same, get_or-set_other}
 use Rattle.std.proofs.Math.Dec.{eqb}
@@ -15,7 +15,6 @@ use Rattle.rules.proofs.Laws.Put.{put_same, put_other, link_new, link_old, link_
 use Rattle.rules.proofs.Laws.Kinds.{kind_most}
 use Rattle.rules.proofs.Laws.Worlds.{world_ext}
 use Rattle.tables.specs.Layout.{View, row_count, link_count, next_t, link_from_t, link_to_t}
-use Rattle.book.specs.declared.Found.TheVariants.{At}
 use Rattle.book.specs.Book.{next_of, root_of, id_of, code_of, fixed_of, len_of, mark_of, from_of, to_of, owner_of, index_of}
 use Rattle.book.specs.Book.{live_row, blocks_of, place_of, block_at, bytes_of, object_at, has_id, row_of, world_of}
 use Rattle.book.specs.Sound.{Live, On, Used, Owned, Sound, times_held}
@@ -33,11 +32,11 @@ use Rattle.book.specs.Laws.Filled.{Fresh, filled_id_other, filled_code_other, fi
 use Rattle.book.specs.Laws.Filled.{filled_len, filled_object, filled_shape}
 
 -- What is found is free.
-pub row_free : (v : View) (r : ℕ) → free_row v ≡ At r → code_of v r ≡ 0
+pub row_free : (v : View) (r : ℕ) → free_row v ≡ Some r → code_of v r ≡ 0
 unfolding free_row
 row_free v r e = eqb-true (code_of v r) 0 (first_hit row_count (λ i. eqb (code_of v i) 0) r e)
 
-pub link_free : (v : View) (l : ℕ) → free_link v ≡ At l → mark_of v l ≡ 0
+pub link_free : (v : View) (l : ℕ) → free_link v ≡ Some l → mark_of v l ≡ 0
 unfolding free_link
 link_free v l e = eqb-true (mark_of v l) 0 (first_hit link_count (λ i. eqb (mark_of v i) 0) l e)
 
@@ -65,7 +64,7 @@ module _ (v : View) (z : Shape v) (p : Placed v) (r id : ℕ) (x : Obj) (f : Fre
   id_still s a = filled_id_other v r id x s (other s a)
 
   -- the new number's row is the new one,
-  row_new : row_of (row_filled r id x v) id ≡ At r
+  row_new : row_of (row_filled r id x v) id ≡ Some r
   unfolding row_of
   row_new =
       first_only row_count (has_id (row_filled r id x v) id) r h
@@ -354,7 +353,7 @@ moved_obj v area o =
 -- ---- a create
 
 module _ (v : View) (area : List ℕ) (z : Shape v) (s : Sound v) (c : ℕ) (a : Live v c) (x : Obj) (f : Fresh x)
-    (r l : ℕ) (row : free_row v ≡ At r) (place : free_link v ≡ At l) where
+    (r l : ℕ) (row : free_row v ≡ Some r) (place : free_link v ≡ Some l) where
   -- no live row has the next number
   number_new : (i : ℕ) → Live v i → id_of v i ≡ next_of v → ⊥
   number_new i b e = omega (arith, s.ids_below i b)
@@ -427,7 +426,7 @@ module _ (v : View) (area : List ℕ) (z : Shape v) (s : Sound v) (c : ℕ) (a :
 
 -- Where the container has spare, a row and a link are found.
 pub create_room : (v : View) (area : List ℕ) → Sound v → (c : ℕ) → Live v c → code_of v c ≡ container_code → 1 ≤ spare_of (world_of v area) (id_of v c)
-    → (r : ℕ) × (l : ℕ) × (free_row v ≡ At r) × (free_link v ≡ At l)
+    → (r : ℕ) × (l : ℕ) × (free_row v ≡ Some r) × (free_link v ≡ Some l)
 unfolding free_row free_link
 create_room v area s c a e h =
     let (r, row) = spare_row_room v s area c a e h in
@@ -436,7 +435,7 @@ create_room v area s c a e h =
 
 -- ---- a link
 
-module _ (v : View) (area : List ℕ) (z : Shape v) (s : Sound v) (c o : ℕ) (a : Live v c) (b : Live v o) (l : ℕ) (place : free_link v ≡ At l) where
+module _ (v : View) (area : List ℕ) (z : Shape v) (s : Sound v) (c o : ℕ) (a : Live v c) (b : Live v o) (l : ℕ) (place : free_link v ≡ Some l) where
   -- The world that a link leaves is the rules' link applied.
   pub link_world : world_of (moved_on (link_filled l c o v)) area ≡ apply (link (id_of v c) (id_of v o)) (world_of v area)
   unfolding world_of apply
@@ -460,6 +459,6 @@ module _ (v : View) (area : List ℕ) (z : Shape v) (s : Sound v) (c o : ℕ) (a
 
 -- Where the container has spare, a link is found.
 pub link_room : (v : View) (area : List ℕ) → Sound v → (c : ℕ) → Live v c → code_of v c ≡ container_code → 1 ≤ spare_of (world_of v area) (id_of v c)
-    → (l : ℕ) × (free_link v ≡ At l)
+    → (l : ℕ) × (free_link v ≡ Some l)
 unfolding free_link
 link_room v area s c a e h = spare_link_room v s area c a e h

@@ -1,6 +1,6 @@
 -- A resize, step by step, leaves the data area as the change asks it: bytes that stay are as they were, freed and new bytes are zero, and other segments'
 -- bytes are untouched.
-use Rattle.std.specs.Prelude.{ℕ, ◌+◌, ◌*◌, ◌-◌, ◌/◌, ◌%◌, ◌<◌, ◌≤◌, false, ◌≡◌, List, get_or, eqb, leb, ltb}
+use Rattle.std.specs.Prelude.{ℕ, ◌+◌, ◌*◌, ◌-◌, ◌/◌, ◌%◌, ◌<◌, ◌≤◌, false, ◌≡◌, List, get_or, eqb, leb, ltb, Some}
 use Rattle.std.proofs.Math.Decide.{ℕ_discrete}
 use native.Mathlib.Omega.{arith}
 use Rattle.std.proofs.Math.Logic.{⊎_elim}
@@ -14,7 +14,6 @@ use Rattle.rules.proofs.Laws.Bools.{bool_cases}
 use Rattle.rules.proofs.Laws.Bytes.{resized_at}
 use Rattle.rules.proofs.Laws.Lengths.{resized_length}
 use Rattle.tables.specs.Layout.{View, row_count, block_count, index_t}
-use Rattle.book.specs.declared.Found.TheVariants.{At}
 use Rattle.book.specs.Book.{id_of, code_of, len_of, owner_of, index_of, blocks_of, is_block, first, bytes_of, row_of}
 use Rattle.book.specs.Sound.{Live, Sound}
 use Rattle.book.specs.Placed.{Placed}
@@ -46,8 +45,8 @@ module _ (v : View) (r m : ℕ) (h : Held v r m) (area : List ℕ) (lo hi : ℕ)
   edge_in : j < length area → j < area_size → owner_of v (j / block_size) ≡ r + 1 → index_of v (j / block_size) ≡ lo / block_size → lo ≤ spot v j → spot v j < hi
       → get_or (edge_cleared r lo hi v area) j 0 ≡ 0
   edge_in la l o i a b =
-      let f : first block_count (is_block v r (lo / block_size)) ≡ At (j / block_size) =
-      subst (λ (k : ℕ). first block_count (is_block v r k) ≡ At (j / block_size)) i (held_found v r m h (j / block_size) (omega arith) o) in
+      let f : first block_count (is_block v r (lo / block_size)) ≡ Some (j / block_size) =
+      subst (λ (k : ℕ). first block_count (is_block v r k) ≡ Some (j / block_size)) i (held_found v r m h (j / block_size) (omega arith) o) in
       let s : spot v j / block_size ≡ lo / block_size = omega arith in
       let z = edge_reach lo hi le (spot v j) s b in
       ap (λ (y : List ℕ). get_or y j 0) (edge_at r lo hi v area (j / block_size) f)

@@ -1,6 +1,6 @@
 -- Rows, links and blocks are never wanting: a container with spare leaves a free row and a free link, and a segment within its quota finds its blocks.
 -- The reckoning is that of the crate quotas, over the book seen as a tree of rows.
-use Rattle.std.specs.Prelude.{ℕ, zero, suc, ◌+◌, ◌-◌, ◌<◌, ◌≤◌, Bool, cond, ◌≡◌, refl, List, eqb}
+use Rattle.std.specs.Prelude.{ℕ, zero, suc, ◌+◌, ◌-◌, ◌<◌, ◌≤◌, Bool, cond, ◌≡◌, refl, List, eqb, Some}
 use native.Mathlib.Omega.{arith}
 use Rattle.std.proofs.Math.Bool.{true, false, not}
 use Rattle.std.proofs.Math.Path.{sym, ap}
@@ -14,7 +14,6 @@ use Rattle.quotas.specs.Reach.{Blocks, blocks_held}
 use Rattle.rules.specs.Kernel.{segment_code, container_code, spare_of, units}
 use Rattle.rules.proofs.Laws.Bools.{bool_cases, not_i, not_both, same_by}
 use Rattle.tables.specs.Layout.{View, row_count, link_count, block_count}
-use Rattle.book.specs.declared.Found.TheVariants.{At}
 use Rattle.book.specs.Book.{id_of, root_of, code_of, quota_of, len_of, mark_of, from_of, to_of, owner_of, index_of, live_row, live_link, blocks_of, is_block, first, world_of}
 use Rattle.book.specs.Sound.{Live, Used, Sound, links_to, charged_to, times_held}
 use Rattle.book.specs.Laws.First.{first_some}
@@ -82,13 +81,13 @@ module _ (v : View) (s : Sound v) where
   spare_there c h = h
 
   -- Where a container has spare, a row is free,
-  pub row_room : (c : ℕ) → c < row_count → code_of v c ≡ container_code → 1 ≤ quota_of v c - (1 + charged_to v c) → (r : ℕ) × (first row_count (λ r. eqb (code_of v r) 0) ≡ At r)
+  pub row_room : (c : ℕ) → c < row_count → code_of v c ≡ container_code → 1 ≤ quota_of v c - (1 + charged_to v c) → (r : ℕ) × (first row_count (λ r. eqb (code_of v r) 0) ≡ Some r)
   row_room c l e h =
       let (r, a, b) = row_free (rows_of v) row_count link_count s.root.0 tree_sound (omega (arith, s.root.1.quota_all)) c l (eq-eqb (code_of v c) container_code e) (spare_there c h) in
       first_some row_count (λ r. eqb (code_of v r) 0) r a (not-false (eqb (code_of v r) 0) b)
 
   -- and a link.
-  pub link_room : (c : ℕ) → c < row_count → code_of v c ≡ container_code → 1 ≤ quota_of v c - (1 + charged_to v c) → (l : ℕ) × (first link_count (λ l. eqb (mark_of v l) 0) ≡ At l)
+  pub link_room : (c : ℕ) → c < row_count → code_of v c ≡ container_code → 1 ≤ quota_of v c - (1 + charged_to v c) → (l : ℕ) × (first link_count (λ l. eqb (mark_of v l) 0) ≡ Some l)
   link_room c l e h =
       let (k, a, b) = link_free (rows_of v) row_count link_count s.root.0 tree_sound (omega (arith, s.root.1.quota_all)) c l (eq-eqb (code_of v c) container_code e) (spare_there c h) in
       first_some link_count (λ k. eqb (mark_of v k) 0) k a (not-false (eqb (mark_of v k) 0) b)
@@ -98,11 +97,11 @@ module _ (v : View) (s : Sound v) where
   spare_row area c a e h = subst (λ (n : ℕ). 1 ≤ n) (spare_container_at v area (placed v s) s.ids_below c a e) h
 
   pub spare_row_room : (area : List ℕ) (c : ℕ) → Live v c → code_of v c ≡ container_code → 1 ≤ spare_of (world_of v area) (id_of v c)
-      → (r : ℕ) × (first row_count (λ r. eqb (code_of v r) 0) ≡ At r)
+      → (r : ℕ) × (first row_count (λ r. eqb (code_of v r) 0) ≡ Some r)
   spare_row_room area c a e h = row_room c a.low e (spare_row area c a e h)
 
   pub spare_link_room : (area : List ℕ) (c : ℕ) → Live v c → code_of v c ≡ container_code → 1 ≤ spare_of (world_of v area) (id_of v c)
-      → (l : ℕ) × (first link_count (λ l. eqb (mark_of v l) 0) ≡ At l)
+      → (l : ℕ) × (first link_count (λ l. eqb (mark_of v l) 0) ≡ Some l)
   spare_link_room area c a e h = link_room c a.low e (spare_row area c a e h)
 
 -- ---- blocks
@@ -128,7 +127,7 @@ used_and_free v =
     )
 
 -- Where a block is free, the lowest is found.
-pub block_found : (v : View) → 1 ≤ free_blocks v → (b : ℕ) × (first block_count (λ b. eqb (owner_of v b) 0) ≡ At b)
+pub block_found : (v : View) → 1 ≤ free_blocks v → (b : ℕ) × (first block_count (λ b. eqb (owner_of v b) 0) ≡ Some b)
 unfolding free_blocks
 block_found v h =
     let (b, l, t) = found block_count (λ b. eqb (owner_of v b) 0) h in

@@ -1,24 +1,29 @@
 -- The view of any bytes has its tables' lengths, and no change of a table takes them away.
-use Rattle.std.specs.Prelude.{ℕ, ◌*◌, ◌<◌, Bool, true, false, cond, ◌≡◌, refl, List, length, set, drop, eqb}
+use Rattle.std.specs.Prelude.{ℕ, ◌*◌, ◌<◌, Bool, true, false, cond, ◌≡◌, refl, List, length, set, take, drop, eqb}
 use Rattle.std.proofs.Common.{arith, sym, ap, ◌∙◌, subst, length-set, length-drop, length-take-le, eqb-true}
 use Rattle.std.proofs.lemmas.List.{length-replicate}
 use Rattle.std.proofs.lemmas.List.Edits.{sets}
 use Rattle.std.proofs.Math.Seq.{length-sets}
 use Rattle.labels.specs.Core.{word_count}
-use Rattle.tables.specs.Layout.{View, row_count, label_words_t, n_of, tab_of, view, empty, zeros, if_tab, on_tab, put_t, run_t}
+use Rattle.tables.specs.Layout.{View, row_count, label_words_t, clear_words_t, n_of, tab_of, view, empty, zeros, if_tab, on_tab, put_t, run_t}
 use Rattle.tables.specs.Layout.Laws.{tab_of_from, long_all, tab_of_long, within}
-use Rattle.book.specs.Book.{label_of}
+use Rattle.book.specs.Book.{label_of, clearance_of}
 use Rattle.book.specs.Shape.{Shape}
 
 -- What a book's bytes say is in shape.
 pub view_shape : (b : List ℕ) → Shape (view b)
 view_shape b = record { long = tab_of_long b }
 
--- A row's label has all its words.
-pub label_long : (b : List ℕ) (r : ℕ) → r < row_count → length (label_of (view b) r).words ≡ word_count
-label_long b r h =
-    length-take-le word_count (drop (r * word_count) (view b).label_words)
-    (omega (arith, length-drop (r * word_count) (view b).label_words, tab_of_long b label_words_t, within r row_count word_count h))
+-- A row's label has all its words, and so has its clearance.
+module _ (b : List ℕ) (r : ℕ) (h : r < row_count) where
+  words_long : (l : List ℕ) → length l ≡ row_count * word_count → length (take word_count (drop (r * word_count) l)) ≡ word_count
+  words_long l e = length-take-le word_count (drop (r * word_count) l) (omega (arith, length-drop (r * word_count) l, e, within r row_count word_count h))
+
+  pub label_long : length (label_of (view b) r).words ≡ word_count
+  label_long = words_long (view b).label_words (tab_of_long b label_words_t)
+
+  pub clearance_long : length (clearance_of (view b) r).words ≡ word_count
+  clearance_long = words_long (view b).clear_words (tab_of_long b clear_words_t)
 
 zeros_long : (n : ℕ) → length (zeros n) ≡ n
 unfolding zeros

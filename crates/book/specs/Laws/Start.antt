@@ -1,7 +1,7 @@
 -- Start: what is cleared and written is the book of the rules' start, and that book is sound.
-use Rattle.std.specs.Prelude.{ℕ, ◌+◌, ◌-◌, ◌<◌, Bool, ◌&&◌, ◌||◌, ◌≡◌, List, length, get_or, replicate, leb, ltb}
+use Rattle.std.specs.Prelude.{ℕ, ◌+◌, ◌-◌, ◌<◌, Bool, ◌&&◌, ◌||◌, ◌≡◌, get_or, replicate, leb, ltb}
 use Rattle.std.proofs.Math.Decide.{ℕ_discrete}
-use Rattle.std.proofs.Common.{arith, sym, ◌∙◌, ap, subst, ext_get_or}
+use Rattle.std.proofs.Common.{arith, sym, ◌∙◌, ap, subst}
 use Rattle.std.proofs.Math.Bool.{true, false, cond}
 use Rattle.std.proofs.Math.Path.{refl, ap₂}
 use Rattle.std.proofs.lemmas.List.{length-replicate, get_or-replicate}
@@ -29,11 +29,6 @@ use Rattle.book.specs.Laws.Shapes.{empty_shape, put_shape}
 use Rattle.book.specs.Laws.Handed.{container_handed, thread_handed, row_is_container, row_is_thread}
 use Rattle.book.specs.Laws.Filled.{Fresh, container_fresh, thread_fresh, filled_id_other, filled_code_other, filled_id, filled_shape}
 use Rattle.book.specs.Laws.Make.{filled_live, live_still, filled_obj, filled_linked, filled_placed, linked_obj, linked_more, linked_placed}
-
--- A list of zeros.
-pub all_zero : (l : List ℕ) → ((i : ℕ) → i < length l → get_or l i 0 ≡ 0) → l ≡ replicate (length l) 0
-all_zero l h =
-    ext_get_or 0 l (replicate (length l) 0) (sym (length-replicate {A = ℕ} (length l) 0)) (λ i k. h i k ∙ sym (get_or-replicate (length l) i 0 0 k))
 
 -- ---- the two objects
 

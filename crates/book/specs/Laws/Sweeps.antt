@@ -1,5 +1,5 @@
 -- The sweeps over rows and blocks, turn by turn.
-use Rattle.std.specs.Prelude.{ℕ, zero, suc, ◌+◌, ◌*◌, ◌-◌, ◌/◌, ◌<◌, ◌≤◌, Bool, true, false, ◌≡◌, replicate, eqb, ltb}
+use Rattle.std.specs.Prelude.{ℕ, ◌+◌, ◌*◌, ◌-◌, ◌/◌, ◌<◌, ◌≤◌, Bool, true, false, ◌≡◌, replicate, eqb, ltb}
 use Rattle.std.proofs.Math.Decide.{ℕ_discrete}
 use Rattle.std.proofs.Common.{add-one, arith, ◌∙◌, ap₂}
 use Rattle.std.proofs.Math.Bool.{not, cond}
@@ -18,7 +18,8 @@ use Rattle.book.specs.Sound.{Used}
 use Rattle.book.specs.Cut.{Blocked, end_marked, held_row, held_marked, spared, row_freed, rows_freed, rows_swept, orphan, block_freed, blocks_swept, block_swept, area_swept}
 use Rattle.book.specs.Resize.{block_cleared}
 use Rattle.book.specs.Laws.Cleared.{if_true, if_false, cleared_length, in_block, off_block}
-use Rattle.book.specs.Laws.First.{collect_at, collect_is, collect_cong}
+use Rattle.book.specs.Laws.Tally.{flags_down}
+use Rattle.book.specs.Laws.First.{collected_at, collected_is, collect_is, collect_cong}
 
 -- ---- tests
 
@@ -38,9 +39,10 @@ either_false : (a b : Bool) → a ≡ false → either a b ≡ b
 unfolding either
 either_false a b e = rw e
 
-one_none : (t : Bool) → eqb (cond t 1 0) 1 ≡ t
-one_none true = refl
-one_none false = refl
+either_none : (t : Bool) → either t false ≡ t
+unfolding either
+either_none true = refl
+either_none false = refl
 
 any_more : (n : ℕ) (t : ℕ → Bool) → any (n + 1) t ≡ either (t n) (any n t)
 unfolding any
@@ -83,104 +85,102 @@ upto_end f n k l m u e h = sym (collect_is n f m (u.long ∙ e) (λ i q. u.below
 
 -- ---- rows that are held
 
-module _ (v : View) (l : ℕ) (h : List ℕ) where
+module _ (v : View) (l : ℕ) (h : List Bool) where
   -- A free link marks nothing,
   pub end_none : (m : ℕ) → m ≡ mark_of v l → m ≡ 0 → h ≡ end_marked v l h
   unfolding end_marked
-  end_none m e z = sym (if_false (live_link v l) (set h (to_of v l) 1) h (ap not (eq-eqb (mark_of v l) 0 (sym e ∙ z))))
+  end_none m e z = sym (if_false (live_link v l) (set h (to_of v l) true) h (ap not (eq-eqb (mark_of v l) 0 (sym e ∙ z))))
 
   -- a live one the row that it leads to.
-  pub end_some : (m o r : ℕ) → m ≡ mark_of v l → (m ≡ 0 → ⊥) → o ≡ to_of v l → r ≡ o → set h r 1 ≡ end_marked v l h
+  pub end_some : (m o r : ℕ) → m ≡ mark_of v l → (m ≡ 0 → ⊥) → o ≡ to_of v l → r ≡ o → set h r true ≡ end_marked v l h
   unfolding end_marked
   end_some m o r e n eo er =
-      ap (λ (x : ℕ). set h x 1) (er ∙ eo) ∙ sym (if_true (live_link v l) (set h (to_of v l) 1) h (ap not (ne_eqb (mark_of v l) 0 (λ z. n (e ∙ z)))))
+      ap (λ (x : ℕ). set h x true) (er ∙ eo) ∙ sym (if_true (live_link v l) (set h (to_of v l) true) h (ap not (ne_eqb (mark_of v l) 0 (λ z. n (e ∙ z)))))
 
   pub end_long : length (end_marked v l h) ≡ length h
   unfolding end_marked
   end_long = bool_cases (live_link v l)
-      (λ t. ap (λ (x : List ℕ). length x) (if_true (live_link v l) (set h (to_of v l) 1) h t) ∙ length-set h (to_of v l) 1)
-      (λ t. ap (λ (x : List ℕ). length x) (if_false (live_link v l) (set h (to_of v l) 1) h t))
+      (λ t. ap (λ (x : List Bool). length x) (if_true (live_link v l) (set h (to_of v l) true) h t) ∙ length-set h (to_of v l) true)
+      (λ t. ap (λ (x : List Bool). length x) (if_false (live_link v l) (set h (to_of v l) true) h t))
 
 -- the rows that the first n links mark
-pub record HeldTo (v : View) (n : ℕ) (h m : List ℕ) : Type 0 where
+pub record HeldTo (v : View) (n : ℕ) (h m : List Bool) : Type 0 where
   pub long : length m ≡ row_count
-  pub each : (r : ℕ) → r < row_count → get_or m r 0 ≡ cond (any n (λ k. both (live_link v k) (eqb (to_of v k) r))) 1 (get_or h r 0)
+  pub each : (r : ℕ) → r < row_count → get_or m r false ≡ either (any n (λ k. both (live_link v k) (eqb (to_of v k) r))) (get_or h r false)
 
-pub held_start : (v : View) (h : List ℕ) → length h ≡ row_count → HeldTo v 0 h h
-unfolding any
+pub held_start : (v : View) (h : List Bool) → length h ≡ row_count → HeldTo v 0 h h
+unfolding any either
 held_start v h e = record { long = e; each = λ r k. refl }
 
-pub held_more : (v : View) (n : ℕ) (h m : List ℕ) → HeldTo v n h m → HeldTo v (n + 1) h (end_marked v n m)
+pub held_more : (v : View) (n : ℕ) (h m : List Bool) → HeldTo v n h m → HeldTo v (n + 1) h (end_marked v n m)
 held_more v n h m s =
     record {
       long = end_long v n m ∙ s.long;
       each = λ r k.
-          one r k ∙ sym (ap (λ (t : Bool). cond t 1 (get_or h r 0)) (any_more n (λ k. both (live_link v k) (eqb (to_of v k) r))));
+          one r k ∙ sym (ap (λ (t : Bool). either t (get_or h r false)) (any_more n (λ k. both (live_link v k) (eqb (to_of v k) r))));
     }
   where
-    hit : (r : ℕ) → r < row_count → live_link v n ≡ true → to_of v n ≡ r → get_or (end_marked v n m) r 0 ≡ 1
+    hit : (r : ℕ) → r < row_count → live_link v n ≡ true → to_of v n ≡ r → get_or (end_marked v n m) r false ≡ true
     hit r k t e = unfold end_marked in
-        (ap (λ (x : List ℕ). get_or x r 0) (if_true (live_link v n) (set m (to_of v n) 1) m t ∙ ap (λ (x : ℕ). set m x 1) e)
-        ∙ get_or-set_same m r 1 0 (omega (arith, s.long)))
+        (ap (λ (x : List Bool). get_or x r false) (if_true (live_link v n) (set m (to_of v n) true) m t ∙ ap (λ (x : ℕ). set m x true) e)
+        ∙ get_or-set_same m r true false (omega (arith, s.long)))
 
-    miss : (r : ℕ) → live_link v n ≡ true → (to_of v n ≡ r → ⊥) → get_or (end_marked v n m) r 0 ≡ get_or m r 0
+    miss : (r : ℕ) → live_link v n ≡ true → (to_of v n ≡ r → ⊥) → get_or (end_marked v n m) r false ≡ get_or m r false
     miss r t ne = unfold end_marked in
-        (ap (λ (x : List ℕ). get_or x r 0) (if_true (live_link v n) (set m (to_of v n) 1) m t) ∙ get_or-set_other m (to_of v n) r 1 0 (λ q. ne (sym q)))
+        (ap (λ (x : List Bool). get_or x r false) (if_true (live_link v n) (set m (to_of v n) true) m t) ∙ get_or-set_other m (to_of v n) r true false (λ q. ne (sym q)))
 
-    off : (r : ℕ) → live_link v n ≡ false → get_or (end_marked v n m) r 0 ≡ get_or m r 0
-    off r t = unfold end_marked in (ap (λ (x : List ℕ). get_or x r 0) (if_false (live_link v n) (set m (to_of v n) 1) m t))
+    off : (r : ℕ) → live_link v n ≡ false → get_or (end_marked v n m) r false ≡ get_or m r false
+    off r t = unfold end_marked in (ap (λ (x : List Bool). get_or x r false) (if_false (live_link v n) (set m (to_of v n) true) m t))
 
     one : (r : ℕ) → r < row_count
-        → get_or (end_marked v n m) r 0 ≡ cond (either (both (live_link v n) (eqb (to_of v n) r)) (any n (λ k. both (live_link v k) (eqb (to_of v k) r)))) 1 (get_or h r 0)
+        → get_or (end_marked v n m) r false ≡ either (either (both (live_link v n) (eqb (to_of v n) r)) (any n (λ k. both (live_link v k) (eqb (to_of v k) r)))) (get_or h r false)
     one r k =
         let live = live_link v n in
         let here = eqb (to_of v n) r in
         let rest = any n (λ k. both (live_link v k) (eqb (to_of v k) r)) in
         bool_cases live
         (λ t. bool_cases here
-        (λ e. hit r k t (eqb-true (to_of v n) r e) ∙ sym (if_true (either (both live here) rest) 1 (get_or h r 0) (either_true (both live here) rest (both_true live here t ∙ e))))
-        (λ e. miss r t (eqb-false (to_of v n) r e) ∙ s.each r k ∙ sym (ap (λ (x : Bool). cond x 1 (get_or h r 0)) (either_false (both live here) rest (both_true live here t ∙ e)))))
-        (λ t. off r t ∙ s.each r k ∙ sym (ap (λ (x : Bool). cond x 1 (get_or h r 0)) (either_false (both live here) rest (both_false live here t))))
+        (λ e. hit r k t (eqb-true (to_of v n) r e) ∙ sym (either_true (either (both live here) rest) (get_or h r false) (either_true (both live here) rest (both_true live here t ∙ e))))
+        (λ e. miss r t (eqb-false (to_of v n) r e) ∙ s.each r k ∙ sym (ap (λ (x : Bool). either x (get_or h r false)) (either_false (both live here) rest (both_true live here t ∙ e)))))
+        (λ t. off r t ∙ s.each r k ∙ sym (ap (λ (x : Bool). either x (get_or h r false)) (either_false (both live here) rest (both_false live here t))))
 
-pub held_end : (v : View) (n : ℕ) (h m : List ℕ) → HeldTo v n h m → n ≤ link_count → link_count ≤ n → m ≡ held_marked v h
+pub held_end : (v : View) (n : ℕ) (h m : List Bool) → HeldTo v n h m → n ≤ link_count → link_count ≤ n → m ≡ held_marked v h
 unfolding held_marked held_row
 held_end v n h m s p q =
     let e : n ≡ link_count = omega arith in
-    sym (collect_is row_count (λ r. cond (any link_count (λ k. both (live_link v k) (eqb (to_of v k) r))) 1 (get_or h r 0)) m s.long
-    (λ r k. s.each r k ∙ ap (λ (i : ℕ). cond (any i (λ k. both (live_link v k) (eqb (to_of v k) r))) 1 (get_or h r 0)) e))
+    sym (collected_is false row_count (λ r. either (any link_count (λ k. both (live_link v k) (eqb (to_of v k) r))) (get_or h r false)) m s.long
+    (λ r k. s.each r k ∙ ap (λ (i : ℕ). either (any i (λ k. both (live_link v k) (eqb (to_of v k) r))) (get_or h r false)) e))
 
 -- ---- rows that are freed
 
-module _ (v : View) (r top held : ℕ) where
-  pub row_held : held ≡ 1 → v ≡ row_freed v r top held
+module _ (v : View) (r top : ℕ) (held : Bool) where
+  pub row_held : held ≡ true → v ≡ row_freed v r top held
   unfolding row_freed
-  row_held e = sym (if_true (spared v r top held) v (put_t kind_t r 0 v) (either_true (eqb held 1) (eqb (id_of v r) top) (eq-eqb held 1 e)))
+  row_held e = sym (if_true (spared v r top held) v (put_t kind_t r 0 v) (either_true held (eqb (id_of v r) top) e))
 
-  pub row_root : (i : ℕ) → (held ≡ 1 → ⊥) → i ≡ id_of v r → i ≡ top → v ≡ row_freed v r top held
+  pub row_root : (i : ℕ) → held ≡ false → i ≡ id_of v r → i ≡ top → v ≡ row_freed v r top held
   unfolding row_freed
   row_root i n e q =
-      sym (if_true (spared v r top held) v (put_t kind_t r 0 v)
-      (either_false (eqb held 1) (eqb (id_of v r) top) (ne_eqb held 1 n) ∙ eq-eqb (id_of v r) top (sym e ∙ q)))
+      sym (if_true (spared v r top held) v (put_t kind_t r 0 v) (either_false held (eqb (id_of v r) top) n ∙ eq-eqb (id_of v r) top (sym e ∙ q)))
 
-  pub row_free : (i : ℕ) → (held ≡ 1 → ⊥) → i ≡ id_of v r → (i ≡ top → ⊥) → put_t kind_t r 0 v ≡ row_freed v r top held
+  pub row_free : (i : ℕ) → held ≡ false → i ≡ id_of v r → (i ≡ top → ⊥) → put_t kind_t r 0 v ≡ row_freed v r top held
   unfolding row_freed
   row_free i n e q =
-      sym (if_false (spared v r top held) v (put_t kind_t r 0 v)
-      (either_false (eqb held 1) (eqb (id_of v r) top) (ne_eqb held 1 n) ∙ ne_eqb (id_of v r) top (λ z. q (e ∙ z))))
+      sym (if_false (spared v r top held) v (put_t kind_t r 0 v) (either_false held (eqb (id_of v r) top) n ∙ ne_eqb (id_of v r) top (λ z. q (e ∙ z))))
 
 -- row r's code after the sweep
-unfoldable pub code_after : List ℕ → View → ℕ → ℕ
-code_after h v r = cond (spared v r (root_of v) (get_or h r 0)) (code_of v r) 0
+unfoldable pub code_after : List Bool → View → ℕ → ℕ
+code_after h v r = cond (spared v r (root_of v) (get_or h r false)) (code_of v r) 0
 
-pub record RowsTo (h : List ℕ) (v : View) (n : ℕ) (u : View) : Type 0 where
+pub record RowsTo (h : List Bool) (v : View) (n : ℕ) (u : View) : Type 0 where
   pub rest : u ≡ on_tab kind_t (λ m. u.kind) v
   pub kinds : Upto (code_after h v) n v.kind u.kind
 
-pub rows_start : (h : List ℕ) (v : View) → RowsTo h v 0 v
+pub rows_start : (h : List Bool) (v : View) → RowsTo h v 0 v
 rows_start h v = record { rest = refl; kinds = upto_start (code_after h v) v.kind }
 
-pub rows_more : (h : List ℕ) (v : View) (n : ℕ) (u w : View) → RowsTo h v n u → length v.kind ≡ row_count → n < row_count
-    → (top held : ℕ) → top ≡ root_of v → held ≡ get_or h n 0 → w ≡ row_freed u n top held → RowsTo h v (n + 1) w
+pub rows_more : (h : List Bool) (v : View) (n : ℕ) (u w : View) → RowsTo h v n u → length v.kind ≡ row_count → n < row_count
+    → (top : ℕ) (held : Bool) → top ≡ root_of v → held ≡ get_or h n false → w ≡ row_freed u n top held → RowsTo h v (n + 1) w
 unfolding row_freed code_after
 rows_more h v n u w s long low top held et eh e = bool_cases (spared u n top held)
     (λ t.
@@ -188,48 +188,41 @@ rows_more h v n u w s long low top held et eh e = bool_cases (spared u n top hel
     (record {
       rest = s.rest;
       kinds = upto_keep (code_after h v) n v.kind u.kind s.kinds
-          (sym (if_true (spared v n (root_of v) (get_or h n 0)) (code_of v n) 0 (sym same ∙ t)));
+          (sym (if_true (spared v n (root_of v) (get_or h n false)) (code_of v n) 0 (sym same ∙ t)));
     }))
     (λ t.
     subst (RowsTo h v (n + 1)) (sym (e ∙ if_false (spared u n top held) u (put_t kind_t n 0 u) t))
     (record {
       rest = ap (put_t kind_t n 0) s.rest;
       kinds = upto_set (code_after h v) n v.kind u.kind s.kinds (omega arith) 0
-          (sym (if_false (spared v n (root_of v) (get_or h n 0)) (code_of v n) 0 (sym same ∙ t)));
+          (sym (if_false (spared v n (root_of v) (get_or h n false)) (code_of v n) 0 (sym same ∙ t)));
     }))
   where
-    same : spared u n top held ≡ spared v n (root_of v) (get_or h n 0)
+    same : spared u n top held ≡ spared v n (root_of v) (get_or h n false)
     same =
-        ap₂ either (ap (λ (x : ℕ). eqb x 1) eh) (ap₂ eqb (ap (λ (x : View). id_of x n) s.rest) et)
+        ap₂ either eh (ap₂ eqb (ap (λ (x : View). id_of x n) s.rest) et)
 
-pub rows_end : (h : List ℕ) (v : View) (n : ℕ) (u : View) → RowsTo h v n u → length v.kind ≡ row_count → row_count ≤ n → u ≡ rows_freed h v
+pub rows_end : (h : List Bool) (v : View) (n : ℕ) (u : View) → RowsTo h v n u → length v.kind ≡ row_count → row_count ≤ n → u ≡ rows_freed h v
 unfolding rows_freed code_after
 rows_end h v n u s long q =
     s.rest ∙ ap (λ (x : List ℕ). on_tab kind_t (λ m. x) v) (upto_end (code_after h v) row_count n v.kind u.kind s.kinds long q)
 
-held_at : (v : View) (h : List ℕ) (r : ℕ) → r < row_count → get_or (held_marked v h) r 0 ≡ cond (held_row v r) 1 (get_or h r 0)
+held_at : (v : View) (h : List Bool) (r : ℕ) → r < row_count → get_or (held_marked v h) r false ≡ either (held_row v r) (get_or h r false)
 unfolding held_marked
-held_at v h r k = collect_at row_count (λ r. cond (held_row v r) 1 (get_or h r 0)) r k
+held_at v h r k = collected_at false row_count (λ r. either (held_row v r) (get_or h r false)) r k
 
-zero_at : (n r : ℕ) → ◌≡◌ {A = ℕ} (get_or (replicate n 0) r 0) 0
-zero_at zero r = refl
-zero_at (suc n) zero = refl
-zero_at (suc n) (suc r) = zero_at n r
-
--- Rows freed by the marks that live links make on zeros: those are freed that no live link leads to.
-pub rows_swept_lem : (v : View) → rows_freed (held_marked v (replicate row_count 0)) v ≡ rows_swept v
+-- Rows freed by the marks that live links make where none is: those are freed that no live link leads to.
+pub rows_swept_lem : (v : View) → rows_freed (held_marked v (replicate row_count false)) v ≡ rows_swept v
 unfolding rows_freed rows_swept
 rows_swept_lem v =
     ap (λ (x : List ℕ). on_tab kind_t (λ m. x) v)
-    (collect_cong row_count (λ r. cond (spared v r (root_of v) (get_or (held_marked v (replicate row_count 0)) r 0)) (code_of v r) 0)
+    (collect_cong row_count (λ r. cond (spared v r (root_of v) (get_or (held_marked v (replicate row_count false)) r false)) (code_of v r) 0)
     (λ r. cond (either (held_row v r) (eqb (id_of v r) (root_of v))) (code_of v r) 0)
     (λ r k. ap (λ (t : Bool). cond (either t (eqb (id_of v r) (root_of v))) (code_of v r) 0) (mark r k)))
   where
-    mark : (r : ℕ) → r < row_count → eqb (get_or (held_marked v (replicate row_count 0)) r 0) 1 ≡ held_row v r
+    mark : (r : ℕ) → r < row_count → get_or (held_marked v (replicate row_count false)) r false ≡ held_row v r
     mark r k =
-        ap (λ (x : ℕ). eqb x 1)
-        (held_at v (replicate row_count 0) r k ∙ ap (λ (x : ℕ). cond (held_row v r) 1 x) (zero_at row_count r))
-        ∙ one_none (held_row v r)
+        held_at v (replicate row_count false) r k ∙ ap (either (held_row v r)) (flags_down row_count r) ∙ either_none (held_row v r)
 
 -- ---- blocks
 

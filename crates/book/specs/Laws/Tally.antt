@@ -37,16 +37,22 @@ zero_at zero r = refl
 zero_at (suc n) zero = refl
 zero_at (suc n) (suc r) = zero_at n r
 
-rep_long : (n : ℕ) → length {A = ℕ} (replicate n 0) ≡ n
-rep_long zero = refl
-rep_long (suc n) = ap suc (rep_long n)
+pub rep_long : {A : Type 0} (n : ℕ) (x : A) → length (replicate n x) ≡ n
+rep_long zero x = refl
+rep_long (suc n) x = ap suc (rep_long n x)
+
+-- An array of flags of which none is up.
+pub flags_down : (n r : ℕ) → get_or (replicate n false) r false ≡ false
+flags_down zero r = refl
+flags_down (suc n) zero = refl
+flags_down (suc n) (suc r) = flags_down n r
 
 -- An array of zeros.
 pub zeros_are : (n : ℕ) (a : List ℕ) → a ≡ replicate n 0 → (r : ℕ) → get_or a r 0 ≡ 0
 zeros_are n a e r = ap (λ (x : List ℕ). get_or x r 0) e ∙ zero_at n r
 
 pub zeros_long : (n : ℕ) (a : List ℕ) → a ≡ replicate n 0 → length a ≡ n
-zeros_long n a e = ap length e ∙ rep_long n
+zeros_long n a e = ap length e ∙ rep_long n 0
 
 -- ---- the pass
 
@@ -85,13 +91,13 @@ module _ (v : View) (n : ℕ) (a u : List ℕ) (t : Tallied v n a u) where
       }
 
   -- A live link adds one at its object's row, and its object's quota at its container's.
-  pub tallied_more : (p o q : ℕ) → p ≡ from_of v n → o ≡ to_of v n → q ≡ quota_of v o → (mark_of v n ≡ 0 → ⊥) → p < row_count → o < row_count → q ≤ root_quota
+  pub tallied_more : (p o q : ℕ) → p ≡ from_of v n → o ≡ to_of v n → q ≡ quota_of v o → (mark_of v n ≡ 0 → ⊥) → from_of v n < row_count → to_of v n < row_count → quota_of v (to_of v n) ≤ root_quota
       → Tallied v (n + 1) (set a o (get_or a o 0 + 1)) (set u p (get_or u p 0 + q))
   unfolding links_below charged_below
-  tallied_more p o q ep eo eq ne lp lo lq =
+  tallied_more p o q ep eo eq ne lf lt lq =
       let live : live_link v n ≡ true = not_by (eqb (mark_of v n) 0) (λ z. ne (eqb-true (mark_of v n) 0 z)) in
-      let at : (r : ℕ) → get_or (set a o (get_or a o 0 + 1)) r 0 ≡ get_or a r 0 + when (eqb o r) 1 = λ r. added a o 1 r (omega (arith, t.counts_long)) in
-      let ut : (r : ℕ) → get_or (set u p (get_or u p 0 + q)) r 0 ≡ get_or u r 0 + when (eqb p r) q = λ r. added u p q r (omega (arith, t.charges_long)) in
+      let at : (r : ℕ) → get_or (set a o (get_or a o 0 + 1)) r 0 ≡ get_or a r 0 + when (eqb o r) 1 = λ r. added a o 1 r (omega (arith, t.counts_long, eo, lt)) in
+      let ut : (r : ℕ) → get_or (set u p (get_or u p 0 + q)) r 0 ≡ get_or u r 0 + when (eqb p r) q = λ r. added u p q r (omega (arith, t.charges_long, ep, lf)) in
       record {
         counts_long = length-set a o (get_or a o 0 + 1) ∙ t.counts_long;
         charges_long = length-set u p (get_or u p 0 + q) ∙ t.charges_long;
@@ -116,12 +122,8 @@ module _ (v : View) (n : ℕ) (a u : List ℕ) (t : Tallied v n a u) where
               ap₂ (λ (x y : ℕ). when (eqb x r) y) ep (eq ∙ ap (quota_of v) eo),
             );
         links_most = λ r l. omega (arith, at r, t.links_most r l, when_most (eqb o r) 1);
-        charged_most = λ r l. omega (arith, ut r, t.charged_most r l, when_most (eqb p r) q);
+        charged_most = λ r l. omega (arith, ut r, t.charged_most r l, when_most (eqb p r) q, eq, ap (quota_of v) eo, lq);
       }
-
--- The same arrays by other names.
-pub tallied_same : (v : View) (n : ℕ) (a u a2 u2 : List ℕ) → a2 ≡ a → u2 ≡ u → Tallied v n a u → Tallied v n a2 u2
-tallied_same v n a u a2 u2 e f t = subst (λ (x : List ℕ). Tallied v n x u2) (sym e) (subst (λ (x : List ℕ). Tallied v n a x) (sym f) t)
 
 -- ---- what it ends with
 

@@ -1,6 +1,15 @@
 -- Laws of tests: their parts, and tests of every index below n.
 use Rattle.std.specs.Prelude.{ℕ, zero, suc, ◌+◌, ◌<◌, Bool, true, false, not, cond, ◌&&◌, ◌⊎◌, ◌≡◌, refl, leb}
-use Rattle.std.proofs.Common.{eq-or-lt_of_le, add-one, arith, ⊎_elim, inl, inr, sym, ◌∙◌, ap, leb-true, leb-false}
+use Rattle.std.proofs.Common.{eq-or-lt_of_le, add-one, arith, ⊎_elim, inl, inr, sym, ◌∙◌, ap, ap₂, leb-true, leb-false}
+use Rattle.std.specs.Fn.{Called}
+use Rattle.std.specs.Iterator.{ChecksAll}
+use Rattle.std.specs.declared.ops.Range.{Range}
+use Rattle.std.specs.List.{list_all, range_with_len}
+use Rattle.std.proofs.iter.Yields.{nat_range_steps}
+use Rattle.std.proofs.lemmas.Iterator.{YieldsList-from_range}
+use Rattle.std.proofs.lemmas.Iterator.Search.{all_from_yields_List}
+use native.Mathlib.Numerals.{unary_clauses}
+use denote.Param.Members.{Mut}
 use Rattle.book.specs.Test.{every}
 
 -- ---- parts of a test
@@ -88,3 +97,35 @@ pub every_by : (n : ℕ) (t : ℕ → Bool) → ((i : ℕ) → i < n → t i ≡
 unfolding every
 every_by zero t h = refl
 every_by (suc n) t h = rw (h n (omega arith)) (every_by n t (λ i l. h i (omega arith)))
+
+-- Two tests that agree below n.
+pub every_same : (n : ℕ) (t u : ℕ → Bool) → ((i : ℕ) → i < n → t i ≡ u i) → every n t ≡ every n u
+unfolding every
+every_same zero t u h = refl
+every_same (suc n) t u h = ap₂ (λ (x y : Bool). x && y) (h n (omega arith)) (every_same n t u (λ i l. h i (omega arith)))
+
+-- ---- every index of a range, as `all` asks
+
+-- two tests in the other order
+and_swap : (a b c : Bool) → (a && (b && c)) ≡ (b && (a && c))
+and_swap true true c = refl
+and_swap true false c = refl
+and_swap false true c = refl
+and_swap false false c = refl
+
+-- A range is asked of from its first index on, `every` from the last one down.
+last_too : (a n : ℕ) (t : ℕ → Bool) → list_all t (range_with_len a (suc n)) ≡ (t (a + n) && list_all t (range_with_len a n))
+last_too a zero t = simp unary_clauses
+last_too a (suc n) t =
+    ap (λ (x : Bool). t a && x) (last_too (a + 1) n t) ∙ and_swap (t a) (t (a + 1 + n)) (list_all t (range_with_len (a + 1) n))
+    ∙ ap (λ (x : ℕ). t x && (t a && list_all t (range_with_len (a + 1) n))) (omega arith)
+
+listed : (n : ℕ) (t : ℕ → Bool) → list_all t (range_with_len 0 n) ≡ every n t
+unfolding every
+listed zero t = refl
+listed (suc n) t = last_too 0 n t ∙ ap₂ (λ (x : ℕ) (y : Bool). t x && y) (omega arith) (listed n t)
+
+-- What `(0..n).all(f)` answers, where f asks the test t.
+pub every_all : {F : Type 0} {g : Mut F (ℕ × Unit {0}) Bool} {s : Range ℕ} (n : ℕ) (t : ℕ → Bool) (u : Range ℕ) (f : F) (r : Bool)
+    → ChecksAll nat_range_steps g s f r u → s ≡ record { start = 0; end = n } → ((x : ℕ) (b : Bool) (q : F) → Called g f (x, tt) b q → (q ≡ f) × (b ≡ t x)) → r ≡ every n t
+every_all n t u f r ran e asks = all_from_yields_List t u f r ran (YieldsList-from_range 0 n n e (omega arith)) asks ∙ listed n t

@@ -3,7 +3,7 @@ use Prim.Native.Nat.{ℕ, zero, suc, ◌+◌, ◌-◌, ◌<◌, ◌≤◌}
 use Rattle.std.proofs.Common.{not-suc-le-zero, eq-or-lt_of_le, le_of_suc-le-suc, ⊎_elim, ◌∙◌, subst}
 use Rattle.std.proofs.Math.Decide.{ℕ_discrete}
 use native.Mathlib.Omega.{arith}
-use Rattle.std.specs.Prelude.{Bool, true, false, not, ◌≡◌, List, [], length, eqb, ltb}
+use Rattle.std.specs.Prelude.{Bool, true, false, not, ◌≡◌, List, [], length, eqb, ltb, Some, None}
 use Rattle.std.proofs.Math.Path.{refl, sym, ap, ap₂}
 use borrow.Author.Tests.{eqb-true, eqb-false, eq-eqb, ne_eqb, not-true, ltb-true, ltb-false, le-leb}
 use Rattle.quotas.specs.Any.{no_both, any, any_found, any_of, both, both_of, both_parts, any_cong}
@@ -14,7 +14,6 @@ use Rattle.rules.proofs.Laws.Bools.{bool_cases, not_i, not_both, same_by}
 use Rattle.rules.proofs.Laws.Kinds.{nothing_dead}
 use Rattle.rules.proofs.Laws.Usage.{use_container, use_segment, use_cleared}
 use Rattle.tables.specs.Layout.{View, row_count, link_count}
-use Rattle.book.specs.declared.Found.TheVariants.{At, Nothing}
 use Rattle.book.specs.Book.{next_of, root_of, id_of, code_of, mask_of, fixed_of, quota_of, len_of, entry_of, label_of, clearance_of, description_of, closure_of, mark_of, from_of, to_of}
 use Rattle.book.specs.Book.{live_row, live_link, kind_from, bytes_of, object_at, has_id, row_of, is_link, world_of, ThreadOrGate, is_thread_or_gate}
 use Rattle.book.specs.Sound.{Live, On, links_to, charged_to}
@@ -65,7 +64,7 @@ module _ (v : View) (p : Placed v) where
   ]
 
   -- A live row is the row of its id.
-  pub row_found : (r : ℕ) → Live v r → row_of v (id_of v r) ≡ At r
+  pub row_found : (r : ℕ) → Live v r → row_of v (id_of v r) ≡ Some r
   unfolding row_of
   row_found r a =
       first_only row_count (has_id v (id_of v r)) r a.low
@@ -74,19 +73,19 @@ module _ (v : View) (p : Placed v) where
       same_row s r (test_live v s l t) a (eqb-true (id_of v s) (id_of v r) e))
 
 -- The row of an id is live and has it.
-pub row_is : (v : View) (o r : ℕ) → row_of v o ≡ At r → (Live v r) × (id_of v r ≡ o)
+pub row_is : (v : View) (o r : ℕ) → row_of v o ≡ Some r → (Live v r) × (id_of v r ≡ o)
 unfolding row_of
 row_is v o r e =
     let (t, q) = both_parts (live_row v r) (eqb (id_of v r) o) (first_hit row_count (has_id v o) r e) in
     (test_live v r (first_low row_count (has_id v o) r e) t, eqb-true (id_of v r) o q)
 
 -- Where an id has no row, no live row has it.
-pub row_none : (v : View) (o : ℕ) → row_of v o ≡ Nothing → (r : ℕ) → Live v r → id_of v r ≡ o → ⊥
+pub row_none : (v : View) (o : ℕ) → row_of v o ≡ None → (r : ℕ) → Live v r → id_of v r ≡ o → ⊥
 unfolding row_of
 row_none v o e r a q =
     no_both (has_id v o r) (both_of (live_row v r) (eqb (id_of v r) o) (live_test v r a) (eq-eqb (id_of v r) o q)) (first_none row_count (has_id v o) e r a.low)
 
-pub no_row : (v : View) (o : ℕ) → ((r : ℕ) → Live v r → id_of v r ≡ o → ⊥) → row_of v o ≡ Nothing
+pub no_row : (v : View) (o : ℕ) → ((r : ℕ) → Live v r → id_of v r ≡ o → ⊥) → row_of v o ≡ None
 unfolding row_of
 no_row v o h =
     first_nothing row_count (has_id v o)
@@ -190,11 +189,11 @@ module _ (v : View) (area : List ℕ) where
   unfolding world_of
   world_root = refl
 
-  pub obj_found : (o r : ℕ) → row_of v o ≡ At r → (world_of v area).obj o ≡ object_at v area r
+  pub obj_found : (o r : ℕ) → row_of v o ≡ Some r → (world_of v area).obj o ≡ object_at v area r
   unfolding world_of
   obj_found o r e = on_at (row_of v o) r (object_at v area) nothing e
 
-  pub obj_missing : (o : ℕ) → row_of v o ≡ Nothing → (world_of v area).obj o ≡ nothing
+  pub obj_missing : (o : ℕ) → row_of v o ≡ None → (world_of v area).obj o ≡ nothing
   unfolding world_of
   obj_missing o e = on_nothing (row_of v o) (object_at v area) nothing e
 

@@ -1,38 +1,20 @@
 -- Units of a row: as the code counts them, and as the world has them.
-use Rattle.std.specs.Prelude.{ℕ, ◌+◌, ◌-◌, ◌<◌, ◌≤◌, Bool, not, ◌≡◌, refl, List, eqb}
+use Rattle.std.specs.Prelude.{ℕ, ◌+◌, ◌-◌, ◌≤◌, Bool, ◌≡◌, refl, List, eqb}
 use Rattle.std.proofs.Common.{arith, sym, ◌∙◌, eqb-true, eq-eqb, ne_eqb}
 use Rattle.std.proofs.Math.Bool.{cond}
 use Rattle.std.proofs.Math.Path.{ap, ap₂}
-use Rattle.std.proofs.lemmas.Bool.{eqb-false, not-true}
-use Rattle.quotas.specs.Sum.{Σ, when, sum_more, when_true, when_false, when_none}
+use Rattle.std.proofs.lemmas.Bool.{eqb-false}
+use Rattle.quotas.specs.Sum.{Σ, sum_more}
 use Rattle.rules.specs.Kernel.{segment_code, container_code, use_of, spare_of, units}
 use Rattle.rules.proofs.Laws.Bools.{bool_cases}
-use Rattle.tables.specs.Layout.{View, row_count, link_count}
-use Rattle.book.specs.Book.{id_of, code_of, quota_of, len_of, mark_of, from_of, to_of, live_link, world_of}
+use Rattle.tables.specs.Layout.{View, link_count}
+use Rattle.book.specs.Book.{id_of, code_of, quota_of, len_of, world_of}
 use Rattle.book.specs.Sound.{Live, Sound, charged_to}
 use Rattle.book.specs.Units.{charge_of, use_at, spare_at}
 use Rattle.book.specs.Laws.Tie.{quota_at, use_container_at, use_segment_at, use_cleared_at}
 use Rattle.book.specs.Laws.SoundBy.{placed}
 
--- ---- what a link charges
-
--- a link that does not start at c
-pub charge_off : (v : View) (c l m : ℕ) → m ≡ mark_of v l → (m ≡ c + 1 → ⊥) → 0 ≡ charge_of v c l
-charge_off v c l m e ne =
-    sym (when_none (live_link v l) (when (eqb (from_of v l) c) (quota_of v (to_of v l))) (λ t.
-    let n = eqb-false (mark_of v l) 0 (not-true (eqb (mark_of v l) 0) t) in
-    when_false (eqb (from_of v l) c) (quota_of v (to_of v l)) (ne_eqb (from_of v l) c (λ z. ne (omega arith)))))
-
--- one that does
-pub charge_on : (v : View) (c l m o q : ℕ) → m ≡ mark_of v l → m ≡ c + 1 → o ≡ to_of v l → q ≡ quota_of v o → q ≡ charge_of v c l
-charge_on v c l m o q e f g h =
-    h ∙ ap (quota_of v) g
-    ∙ sym (when_true (live_link v l) (when (eqb (from_of v l) c) (quota_of v (to_of v l))) (ap not (ne_eqb (mark_of v l) 0 (λ z. omega arith)))
-    ∙ when_true (eqb (from_of v l) c) (quota_of v (to_of v l)) (eq-eqb (from_of v l) c (omega arith)))
-
--- in a sound book such a link leads to a row
-pub charge_low : (v : View) → Sound v → (c l m o : ℕ) → l < link_count → m ≡ mark_of v l → m ≡ c + 1 → o ≡ to_of v l → o < row_count
-charge_low v s c l m o h e f g = omega (arith, (s.ends l (record { low = h; used = λ z. omega arith })).to_low)
+-- ---- what the links charge
 
 -- no link
 pub charged_none : (v : View) (c : ℕ) → 0 ≡ Σ 0 (charge_of v c)

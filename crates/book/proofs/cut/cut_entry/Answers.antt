@@ -7,11 +7,8 @@ use Rattle.book.proofs.cut.cut_entry.Goals as goal
 pub move_on-requires : goal.move_on-requires
 move_on-requires c =
     let a = c.args in
-    let p = c.requires in
-    let link = c.cut_link in (
-      link.auto.b ∙ p.entry.sized,
-      omega (arith, p.numbers, cut_next (view a.b.now) a.l a.area.now (view link.new.b) link.new.area link.ensures),
-    )
+    let link = c.cut_link in
+    omega (arith, c.requires.numbers, cut_next (view a.b.now) a.l a.area.now (view link.new.b) link.new.area link.ensures)
 
 pub returns : goal.returns
 returns c =

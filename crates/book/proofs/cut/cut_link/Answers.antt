@@ -1,4 +1,4 @@
-use mathlib.Core.Path.{◌∙◌}
+use mathlib.Core.Path.{sym, ◌∙◌}
 use Rattle.tables.specs.Layout.{view}
 use Rattle.book.specs.Laws.CutLinks.{entry_linked, still_ended, still_blocked, whole_cut}
 use Rattle.book.proofs.cut.cut_link.Goals as goal
@@ -12,15 +12,14 @@ pub sweep_rows-requires : goal.sweep_rows-requires
 sweep_rows-requires c =
     let a = c.args in
     let off = c.turn_off in
-    still_ended a.b.now a.area.now a.l c.requires off.new.b off.ensures.unlinked off.auto.b
+    still_ended a.b.now a.area.now a.l c.requires off.new.b off.ensures.unlinked (off.array_long ∙ sym c.told-b)
 
 pub sweep_blocks-requires : goal.sweep_blocks-requires
 sweep_blocks-requires c =
     let a = c.args in
-    let p = c.requires in
     let off = c.turn_off in
     let rows = c.sweep_rows in
-    (still_blocked a.b.now a.area.now a.l p off.new.b off.ensures.unlinked rows.new.b rows.ensures (rows.auto.b ∙ off.auto.b), p.area_sized)
+    still_blocked a.b.now a.area.now a.l c.requires off.new.b off.ensures.unlinked rows.new.b rows.ensures (rows.array_long ∙ sym c.told-b)
 
 pub returns : goal.returns
 returns c =

@@ -1,49 +1,24 @@
+use Prim.Native.Nat.{ℕ, ◌+◌}
 use native.Mathlib.Omega.{arith}
-use mathlib.Core.Path.{refl, sym, ◌∙◌}
+use mathlib.Core.Path.{ap}
+use mathlib.Core.Bool.{false}
 use lib.ListN.{get_or}
 use Rattle.tables.specs.Layout.{view, kind_t}
 use Rattle.tables.specs.Layout.Laws.{tab_of_long}
-use Rattle.book.specs.Laws.Sweeps.{rows_start, rows_more, rows_end}
+use Rattle.book.specs.Laws.Sweeps.{RowsTo, rows_start, rows_more, rows_end}
 use Rattle.book.proofs.cut.drop_rows.Goals as goal
+use Rattle.book.proofs.cut.drop_rows.Goals.{After-drop_row}
 
-pub root-top-requires : goal.root-top-requires
-root-top-requires c = c.requires.0
+-- what is left once row r is dropped too
+more : (c : After-drop_row) → RowsTo c.args.held.now (view c.args.b.now) (c.loop-r.r + 1) (view c.drop_row.new.b)
+more c =
+    rows_more _ _ _ _ _ c.loop-r.invariant (tab_of_long c.args.b.now kind_t) (omega arith) _ _ c.root-top.ensures (ap (λ (i : ℕ). get_or c.args.held.now i false) c.from.ensures) c.drop_row.ensures
 
 pub loop-r-init : goal.loop-r-init
-loop-r-init c = (
-  omega arith,
-  c.requires.0,
-  c.requires.0,
-  c.root-top.ensures,
-  rows_start
-      c.args.held.now (view c.args.b.now),
-)
-
-pub bounds-held-r : goal.bounds-held-r
-bounds-held-r c = omega (arith, c.requires.1)
-
-pub drop_row-requires : goal.drop_row-requires
-drop_row-requires c = (c.loop-r.invariant.1, c.loop-r-test.true)
+loop-r-init c = rows_start _ _
 
 pub loop-r-preserved : goal.loop-r-preserved
-loop-r-preserved c =
-    let h = c.args.held.now in
-    let b = c.args.b.now in
-    let inv = c.loop-r.invariant in
-    let row = c.drop_row in (
-      omega arith,
-      row.auto.b ∙ inv.1,
-      inv.2,
-      inv.3,
-      rows_more h (view b) c.loop-r.r (view c.loop-r.b) (view row.new.b)
-          inv.4 (tab_of_long b kind_t) c.loop-r-test.true _ (get_or h c.loop-r.r 0)
-          inv.3 refl row.ensures,
-    )
+loop-r-preserved c = more (goal.at.loop-r-preserved c).After-drop_row
 
-pub shape_of-b : goal.shape_of-b
-shape_of-b c = c.loop-r.invariant.1 ∙ sym c.loop-r.invariant.2
-
-pub returns : goal.returns
-returns c =
-    rows_end c.args.held.now (view c.args.b.now) c.loop-r.r
-    (view c.loop-r.b) c.loop-r.invariant.4 (tab_of_long c.args.b.now kind_t) c.loop-r-test.false
+pub returns-2 : goal.returns-2
+returns-2 c = rows_end _ _ _ _ (more (goal.at.returns-2 c).After-drop_row) (tab_of_long c.args.b.now kind_t) (omega arith)

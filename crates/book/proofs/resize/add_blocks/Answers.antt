@@ -8,16 +8,7 @@ use Rattle.book.specs.Laws.Cleared.{adds_more, adds_end, frees_more, frees_end}
 use Rattle.book.proofs.resize.add_blocks.Goals as goal
 
 pub loop-i-init : goal.loop-i-init
-loop-i-init c = (refl, refl, refl, refl)
-
-pub add_block-requires : goal.add_block-requires
-add_block-requires c = (
-  c.loop-i.invariant.0 ∙ c.requires.0,
-  c.loop-i.invariant.1
-      ∙ c.requires.1,
-  c.requires.2,
-  omega (arith, c.requires.3),
-)
+loop-i-init c = (refl, refl)
 
 pub loop-i-preserved : goal.loop-i-preserved
 loop-i-preserved c =
@@ -25,22 +16,14 @@ loop-i-preserved c =
     let l = c.loop-i in
     let d = c.add_block.ensures in
     let left = a.to - (l.i + 1) in (
-      omega arith,
-      omega arith,
-      ap (blocks_added a.r (l.i + 1) left) d.0 ∙ sym (adds_more a.r l.i a.to (view l.b) (omega arith)) ∙ l.invariant.2,
-      ap₂ (frees_cleared a.r (l.i + 1) left) d.0 d.1 ∙ sym (frees_more a.r l.i a.to (view l.b) l.area (omega arith)) ∙ l.invariant.3,
+      ap (blocks_added a.r (l.i + 1) left) d.0 ∙ sym (adds_more a.r l.i a.to (view l.b) (omega arith)) ∙ l.invariant.0,
+      ap₂ (frees_cleared a.r (l.i + 1) left) d.0 d.1 ∙ sym (frees_more a.r l.i a.to (view l.b) l.area (omega arith)) ∙ l.invariant.1,
     )
-
-pub shape_of-b : goal.shape_of-b
-shape_of-b c = c.loop-i.invariant.0
-
-pub shape_of-area : goal.shape_of-area
-shape_of-area c = c.loop-i.invariant.1
 
 pub returns : goal.returns
 returns c =
     let a = c.args in
     let l = c.loop-i in (
-      sym (adds_end a.r l.i a.to (view l.b) (omega arith)) ∙ l.invariant.2,
-      sym (frees_end a.r l.i a.to (view l.b) l.area (omega arith)) ∙ l.invariant.3,
+      sym (adds_end a.r l.i a.to (view l.b) (omega arith)) ∙ l.invariant.0,
+      sym (frees_end a.r l.i a.to (view l.b) l.area (omega arith)) ∙ l.invariant.1,
     )

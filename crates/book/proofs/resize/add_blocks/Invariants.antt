@@ -1,6 +1,5 @@
 use Prim.Native.Nat.{◌-◌}
 use mathlib.Core.Path.{◌≡◌}
-use lib.ListN.{length}
 use Rattle.tables.specs.Layout.{view}
 use Rattle.book.specs.Enact.{blocks_added}
 use Rattle.book.specs.Resize.{frees_cleared}
@@ -8,8 +7,5 @@ use Rattle.book.proofs.resize.add_blocks.Given as goal
 
 abbrev pub invariant-loop-i : goal.invariant-loop-i
 invariant-loop-i l =
-    (length l.b ≡ length l.initial.b) × (length l.area ≡ length l.initial.area) × (blocks_added l.r l.i (l.to - l.i) (view l.b) ≡ blocks_added l.r l.k (l.to - l.k) (view l.initial.b))
+    (blocks_added l.r l.i (l.to - l.i) (view l.b) ≡ blocks_added l.r l.k (l.to - l.k) (view l.initial.b))
     × (frees_cleared l.r l.i (l.to - l.i) (view l.b) l.area ≡ frees_cleared l.r l.k (l.to - l.k) (view l.initial.b) l.initial.area)
-
-abbrev pub decreases-loop-i : goal.decreases-loop-i
-decreases-loop-i l = l.to - l.i

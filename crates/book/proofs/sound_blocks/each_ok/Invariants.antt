@@ -1,13 +1,10 @@
-use Prim.Native.Nat.{◌-◌, ◌≤◌}
+use Prim.Native.Nat.{◌≤◌}
 use mathlib.Core.Bool.{true}
 use mathlib.Core.Path.{◌≡◌}
-use Rattle.tables.specs.Layout.{view, block_count}
+use Rattle.tables.specs.Layout.{view}
 use Rattle.book.specs.Test.{every, block_b}
 use Rattle.book.specs.Seen.{used_below, Seen}
 use Rattle.book.proofs.sound_blocks.each_ok.Given as goal
 
 abbrev pub invariant-loop-i : goal.invariant-loop-i
-invariant-loop-i l = (l.i ≤ block_count) × (l.sum ≡ used_below (view l.b) l.i) × (l.sum ≤ l.i) × (every l.i (block_b (view l.b)) ≡ true) × Seen (view l.b) l.i l.seen
-
-abbrev pub decreases-loop-i : goal.decreases-loop-i
-decreases-loop-i l = block_count - l.i
+invariant-loop-i l = (l.sum ≡ used_below (view l.b) l.i) × (l.sum ≤ l.i) × (every l.i (block_b (view l.b)) ≡ true) × Seen (view l.b) l.i l.seen

@@ -1,56 +1,26 @@
-use Prim.Native.Nat.{◌<◌}
-use native.Mathlib.Omega.{arith}
-use mathlib.Core.Path.{sym, ◌∙◌}
+use mathlib.Core.Path.{◌≡◌, sym, ◌∙◌, ap}
+use Prim.Native.Nat.{ℕ}
 use lib.ListN.{get_or}
-use borrow.Author.Tests.{eq-eqb}
-use Rattle.tables.specs.Layout.{view, row_count}
-use Rattle.book.specs.Test.{once_b}
+use Rattle.tables.specs.Layout.{view}
+use Rattle.book.specs.Book.{to_of}
+use Rattle.book.specs.Tally.{links_below}
 use Rattle.book.specs.Laws.Tally.{link_to_low}
 use Rattle.book.proofs.Laws.Once.{once_first, once_again}
 use Rattle.book.proofs.sound_links.once.Goals as goal
+use Rattle.book.proofs.sound_links.once.Goals.{After-from-to}
 
-pub returns-then-get16-eq0 : goal.returns-then-get16-eq0
-unfolding once_b
-returns-then-get16-eq0 c = rw (← c.get16.ensures, eq-eqb _ _ c.if-get16-eq0.true)
-
-pub bounds-counts-to : goal.bounds-counts-to
-bounds-counts-to c =
-    let at_index = c.index-to in
-    let low : at_index.result < row_count = omega (
-      arith,
-      link_to_low (view c.args.b.now) c.args.l c.requires.1 c.requires.2
-          (λ z. c.if-get16-eq0.false (c.get16.ensures ∙ z)),
-      (at_index.ensures.0 ∙ c.get16-2.ensures),
-    ) in
-    omega arith
+-- what the array has at the link's object
+counted : (c : After-from-to) → get_or c.args.counts.now c.from-to.result 0 ≡ links_below (view c.args.b.now) c.args.l (to_of (view c.args.b.now) c.args.l)
+counted c =
+    let v = view c.args.b.now in
+    let (low, link, below) = c.requires in
+    ap (λ (x : ℕ). get_or c.args.counts.now x 0) (c.from-to.ensures ∙ c.get-2.ensures)
+    ∙ below (to_of v c.args.l) (link_to_low v c.args.l low link (λ z. c.if-get-eq0.false (c.get.ensures ∙ z)))
 
 pub returns-then-counts-to-eq0 : goal.returns-then-counts-to-eq0
-returns-then-counts-to-eq0 c =
-    let pre = c.requires in
-    let v = view c.args.b.now in
-    let at_index = c.index-to in
-    let at-get162 = c.get16-2 in
-    let low : at_index.result < row_count = omega (
-      arith,
-      link_to_low v c.args.l pre.1 pre.2
-          (λ z. c.if-get16-eq0.false (c.get16.ensures ∙ z)),
-      (at_index.ensures.0 ∙ at-get162.ensures),
-    ) in
-    sym (once_first v c.args.l at_index.result (get_or c.args.counts.now at_index.result 0) pre.1 (at_index.ensures.0 ∙ at-get162.ensures)
-    (pre.3 at_index.result low) c.if-counts-to-eq0.true)
+returns-then-counts-to-eq0 c = sym (once_first (view c.args.b.now) c.args.l c.requires.0 (sym (counted (goal.at.returns-then-counts-to-eq0 c).After-from-to) ∙ c.if-counts-to-eq0.true))
 
 pub returns : goal.returns
 returns c =
-    let pre = c.requires in
-    let v = view c.args.b.now in
-    let at_index = c.index-to in
-    let at-get162 = c.get16-2 in
-    let at-if1 = c.if-get16-eq0 in
-    let at-get16 = c.get16 in
-    let low : at_index.result < row_count = omega (
-      arith,
-      link_to_low v c.args.l pre.1 pre.2 (λ z. at-if1.false (at-get16.ensures ∙ z)),
-      (at_index.ensures.0 ∙ at-get162.ensures),
-    ) in
-    c.link_new.ensures ∙ sym (once_again v c.args.l at_index.result (get_or c.args.counts.now at_index.result 0) pre.1 (at_index.ensures.0 ∙ at-get162.ensures)
-    (pre.3 at_index.result low) (λ z. at-if1.false (at-get16.ensures ∙ z)) c.if-counts-to-eq0.false)
+    c.link_new.ensures
+    ∙ sym (once_again (view c.args.b.now) c.args.l c.requires.0 (λ z. c.if-get-eq0.false (c.get.ensures ∙ z)) (λ z. c.if-counts-to-eq0.false (counted (goal.at.returns c).After-from-to ∙ z)))
