@@ -1,5 +1,5 @@
 -- Call 4: the container that is to be made.
-use Rattle.std.specs.Prelude.{ℕ, List}
+use Rattle.std.specs.Prelude.{ℕ, List, Result}
 use Rattle.std.specs.Int.Bits.{bit_or}
 use Rattle.labels.specs.declared.Label.{Label}
 use Rattle.labels.specs.Core.{label_of, plain}
@@ -7,7 +7,7 @@ use Rattle.rules.specs.Kernel.{container_code, World, Obj, container_of, or_defa
 use Rattle.tables.specs.Layout.{view}
 use Rattle.book.specs.declared.make.NewRow.{NewRow}
 use Rattle.book.specs.Book.{world_of}
-use Rattle.calls.specs.declared.Judged.{Judged}
+use Rattle.calls.specs.declared.Refusal.{Refusal}
 use Rattle.calls.specs.Outcome.{verdict_on, Means}
 use Rattle.calls.specs.Creating.{ToMake}
 
@@ -20,6 +20,6 @@ abbrev pub container_row_of : Label → ℕ → ℕ → NewRow
 container_row_of l m q = record { kind = container_code; mask = m; quota = q; entry = 0; label = l; clearance = plain 0 }
 
 -- what its judging answers
-abbrev pub ContainerJudged : List ℕ → List ℕ → ℕ → ℕ → List ℕ → List ℕ → ℕ → ℕ → Judged → Type 0
+abbrev pub ContainerJudged : List ℕ → List ℕ → ℕ → ℕ → List ℕ → List ℕ → ℕ → ℕ → Result ℕ Refusal → Type 0
 ContainerJudged b area c d l s m q r =
     Means b area (verdict_on b area c (create_container d l s m q)) (ToMake b area c (create_container d l s m q) d (new_container (world_of (view b) area) d l s m q)) r

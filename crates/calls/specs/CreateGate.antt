@@ -1,10 +1,10 @@
 -- Call 6: the gate that is to be made.
-use Rattle.std.specs.Prelude.{ℕ, List}
+use Rattle.std.specs.Prelude.{ℕ, List, Result}
 use Rattle.labels.specs.declared.Label.{Label}
 use Rattle.labels.specs.Core.{label_of}
 use Rattle.rules.specs.Kernel.{gate_code, Obj, gate_of, create_gate}
 use Rattle.book.specs.declared.make.NewRow.{NewRow}
-use Rattle.calls.specs.declared.Judged.{Judged}
+use Rattle.calls.specs.declared.Refusal.{Refusal}
 use Rattle.calls.specs.Outcome.{verdict_on, Means}
 use Rattle.calls.specs.Creating.{ToMake}
 
@@ -17,5 +17,5 @@ abbrev pub gate_row_of : Label → Label → ℕ → NewRow
 gate_row_of l k e = record { kind = gate_code; mask = 0; quota = 1; entry = e; label = l; clearance = k }
 
 -- what its judging answers
-abbrev pub GateJudged : List ℕ → List ℕ → ℕ → ℕ → List ℕ → List ℕ → ℕ → List ℕ → List ℕ → Judged → Type 0
+abbrev pub GateJudged : List ℕ → List ℕ → ℕ → ℕ → List ℕ → List ℕ → ℕ → List ℕ → List ℕ → Result ℕ Refusal → Type 0
 GateJudged b area c d l k e x s r = Means b area (verdict_on b area c (create_gate d l k e x s)) (ToMake b area c (create_gate d l k e x s) d (new_gate l k e x s)) r

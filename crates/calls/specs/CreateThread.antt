@@ -1,10 +1,10 @@
 -- Call 7: the thread that is to be made.
-use Rattle.std.specs.Prelude.{ℕ, List}
+use Rattle.std.specs.Prelude.{ℕ, List, Result}
 use Rattle.labels.specs.declared.Label.{Label}
 use Rattle.labels.specs.Core.{label_of}
 use Rattle.rules.specs.Kernel.{thread_code, Obj, thread_of, create_thread}
 use Rattle.book.specs.declared.make.NewRow.{NewRow}
-use Rattle.calls.specs.declared.Judged.{Judged}
+use Rattle.calls.specs.declared.Refusal.{Refusal}
 use Rattle.calls.specs.Outcome.{verdict_on, Means}
 use Rattle.calls.specs.Creating.{ToMake}
 
@@ -17,5 +17,5 @@ abbrev pub thread_row_of : Label → Label → NewRow
 thread_row_of l k = record { kind = thread_code; mask = 0; quota = 1; entry = 0; label = l; clearance = k }
 
 -- what its judging answers
-abbrev pub ThreadJudged : List ℕ → List ℕ → ℕ → ℕ → List ℕ → List ℕ → List ℕ → Judged → Type 0
+abbrev pub ThreadJudged : List ℕ → List ℕ → ℕ → ℕ → List ℕ → List ℕ → List ℕ → Result ℕ Refusal → Type 0
 ThreadJudged b area c d l k s r = Means b area (verdict_on b area c (create_thread d l k s)) (ToMake b area c (create_thread d l k s) d (new_thread l k s)) r

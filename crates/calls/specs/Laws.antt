@@ -1,5 +1,6 @@
 -- Laws of judging and doing a call.
 pub mod Prelude
+pub mod Ways
 pub mod Leave
 pub mod Begun
 pub mod Lookup
@@ -22,7 +23,6 @@ pub mod CreateGate
 pub mod CreateThread
 pub mod LinkSegment
 pub mod Output
-pub mod LookBytes
 pub mod Look
 pub mod Access
 pub mod Resize

@@ -1,19 +1,23 @@
 -- Call 16: where the object stands, and what is put out of it.
-use Rattle.std.specs.Prelude.{ℕ, ◌+◌, ◌*◌, ◌<◌, Bool, not, cond, ◌&&◌, ◌≡◌, List, ◌∷◌, ◌++◌, replicate, eqb}
+use Rattle.std.specs.Prelude.{ℕ, ◌+◌, ◌*◌, ◌<◌, Bool, not, cond, ◌&&◌, ◌≡◌, List, ◌∷◌, ◌++◌, replicate, eqb, Result, Ok, Err}
 use Rattle.labels.specs.declared.Label.{Label}
 use Rattle.labels.specs.Core.{words_bytes, word_count, may_read}
 use Rattle.rules.specs.Kernel.{thread_code, grant, look, keep, look_size}
-use Rattle.tables.specs.Layout.{View, view, row_count}
+use Rattle.tables.specs.Layout.{View, view}
+use Rattle.book.specs.Book.{code_of, label_of, description_of}
+use Rattle.calls.specs.declared.Refusal.{Refusal}
 use Rattle.book.specs.declared.find.Entry.{Entry}
-use Rattle.book.specs.declared.find.Entry.TheVariants as place
-use Rattle.book.specs.Book.{code_of, label_of, description_of, on_found}
-use Rattle.calls.specs.declared.Judged.{Judged}
 use Rattle.calls.specs.Outcome.{verdict_on, Means}
 use Rattle.calls.specs.Lookup.{open_container, open_entry}
 
--- RULES 8.16: "5 unless D is a container that T may read, and O is D itself or is linked in D; no other call takes (D, D) for an entry."
-unfoldable pub open_look : View → ℕ → ℕ → ℕ → Entry
-open_look v t d o = cond (eqb o d) (on_found (open_container v t d) (λ c. place.In c c 0) place.Nothing) (open_entry v t d o)
+-- the row of the object at a place
+abbrev pub object_at_place : Result Entry Refusal → Result ℕ Refusal
+object_at_place (Ok p) = Ok p.object
+object_at_place (Err f) = Err f
+
+-- RULES 8.16: "5 unless D is a container that T may read, and O is D itself or is linked in D; no other call takes (D, D) for an entry." The row of O
+unfoldable pub open_look : View → ℕ → ℕ → ℕ → Result ℕ Refusal
+open_look v t d o = cond (eqb o d) (open_container v t d) (object_at_place (open_entry v t d o))
 
 -- RULES 8.16: "If O is a thread that T may not read, all bytes after the kind's code are 0."
 abbrev pub shown_b : ℕ → Label → Label → Bool
@@ -34,10 +38,8 @@ look_at v mine r = description_of v r ++ cond (shown_b (code_of v r) mine (label
 pub record ToLook (b area : List ℕ) (c d o n t r : ℕ) : Type 0 where
   pub granted : verdict_on b area c (look d o n) ≡ grant 0 (look_at (view b) (label_of (view b) t) r) keep
   pub sized : n ≡ look_size
-  pub caller_low : t < row_count
-  pub object_low : r < row_count
   pub label_fits : (label_of (view b) r).default < 256
 
 -- what its judging answers
-abbrev pub LookJudged : List ℕ → List ℕ → ℕ → ℕ → ℕ → ℕ → Judged → Type 0
-LookJudged b area c d o n r = Means b area (verdict_on b area c (look d o n)) (ToLook b area c d o n) r
+abbrev pub LookJudged : List ℕ → List ℕ → ℕ → ℕ → ℕ → ℕ → Result (ℕ × ℕ) Refusal → Type 0
+LookJudged b area c d o n r = Means b area (verdict_on b area c (look d o n)) (λ p. ToLook b area c d o n p.0 p.1) r

@@ -1,25 +1,20 @@
 -- Call 12: the part of the data area that is read.
-use Rattle.std.specs.Prelude.{ℕ, ◌+◌, ◌*◌, ◌≤◌, ◌≡◌, List, length, take, drop}
+use Rattle.std.specs.Prelude.{ℕ, ◌+◌, ◌*◌, ◌≤◌, ◌≡◌, List, length, take, drop, Result, Ok, Err}
 use Rattle.std.specs.Borrow.{Bor}
-use Rattle.rules.specs.Kernel as kernel
-use Rattle.rules.specs.Kernel.{Refusal, Verdict, refused, grant, read, keep, answer_of, value_of, output_of, block_size}
+use Rattle.rules.specs.Kernel.{Verdict, refused, grant, read, keep, answer_of, value_of, output_of, block_size}
 use Rattle.tables.specs.Layout.{View, view}
 use Rattle.book.specs.Book.{block_at, on_found, row_of}
-use Rattle.calls.specs.declared.Answer.{Answer}
-use Rattle.calls.specs.declared.Answer.TheVariants.{Refused}
-use Rattle.calls.specs.declared.read.Located.{Located}
-use Rattle.calls.specs.declared.read.Located.TheVariants.{At, Off}
-use Rattle.calls.specs.declared.Judged.{Judged}
-use Rattle.calls.specs.Outcome.{verdict_on, Left, Done, Means}
+use Rattle.calls.specs.declared.Refusal.{Refusal}
+use Rattle.calls.specs.Outcome.{verdict_on, ruled, Left, Done, Means}
 use Rattle.calls.specs.Part.{Lies}
 
 -- n bytes from p on are granted to be read
-pub record ToRead (b area : List ℕ) (c d s k f n p j : ℕ) : Type 0 where
+pub record ToRead (b area : List ℕ) (c d s k f n p : ℕ) : Type 0 where
   pub lies : Lies b s k f n p
   pub granted : verdict_on b area c (read d s k f n) ≡ grant 0 (take n (drop p area)) keep
 
 -- what its judging answers
-abbrev pub ReadJudged : List ℕ → List ℕ → ℕ → ℕ → ℕ → ℕ → ℕ → ℕ → Judged → Type 0
+abbrev pub ReadJudged : List ℕ → List ℕ → ℕ → ℕ → ℕ → ℕ → ℕ → ℕ → Result ℕ Refusal → Type 0
 ReadJudged b area c d s k f n r = Means b area (verdict_on b area c (read d s k f n)) (ToRead b area c d s k f n) r
 
 -- ---- as numbers
@@ -37,15 +32,13 @@ pub record PartAt (b area : List ℕ) (c d s k f n : ℕ) (b' : List ℕ) (p m :
   pub left : Left b area c (read d s k f n) b' area
 
 -- refused: the call is done with that answer
-pub record NoPart (b area : List ℕ) (c d s k f n : ℕ) (b' : List ℕ) (a : Answer) : Type 0 where
-  pub why : Refusal
-  pub verdict : verdict_on b area c (read d s k f n) ≡ refused why
-  pub answered : a ≡ Refused (kernel.number_of why)
-  pub done : Done b area c (read d s k f n) a b' area
+pub record NoPart (b area : List ℕ) (c d s k f n : ℕ) (b' : List ℕ) (r : Refusal) : Type 0 where
+  pub verdict : verdict_on b area c (read d s k f n) ≡ refused (ruled r)
+  pub done : Done b area c (read d s k f n) (Err r) b' area
 
-abbrev pub LocatedAs : List ℕ → List ℕ → ℕ → ℕ → ℕ → ℕ → ℕ → ℕ → List ℕ → Located → Type 0
-LocatedAs b area c d s k f n b' (At p m) = PartAt b area c d s k f n b' p m
-LocatedAs b area c d s k f n b' (Off a) = NoPart b area c d s k f n b' a
+abbrev pub LocatedAs : List ℕ → List ℕ → ℕ → ℕ → ℕ → ℕ → ℕ → ℕ → List ℕ → Result (ℕ × ℕ) Refusal → Type 0
+LocatedAs b area c d s k f n b' (Ok p) = PartAt b area c d s k f n b' p.0 p.1
+LocatedAs b area c d s k f n b' (Err r) = NoPart b area c d s k f n b' r
 
 -- ---- as the part itself
 

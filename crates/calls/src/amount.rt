@@ -1,14 +1,15 @@
 // A signed number of units as an unsigned one and which way it goes.
 ghost use Rattle.std.specs.Prelude.{◌≡◌, ◌≤◌};
 ghost use Rattle.rules.specs.Kernel.{root_quota};
-ghost use Rattle.calls.specs.Amount.{amount_of, over_limit, quota_for, Reckoned};
+ghost use Rattle.calls.specs.Amount.{amount_of, quota_for, Reckoned};
 
-// So many units in, so many out, or over the limit.
+use super::Refusal;
+
+// So many units in, or so many out.
 #[derive(Clone, Copy)]
 pub enum Amount {
     In(u64),
     Out(u64),
-    Bad,
 }
 
 // RULES 8.11: "4 unless n is from -256 to 256."
@@ -16,39 +17,29 @@ const MAX_MOVE: i64 = 256;
 
 const MIN_MOVE: i64 = -MAX_MOVE;
 
-pub fn units_of(n: i64) -> Amount
+pub fn units_of(n: i64) -> Result<Amount, Refusal>
     ensures { result ≡ amount_of n }
 {
     if n < 0 {
         if n < MIN_MOVE {
-            return Amount::Bad;
+            return Err(Refusal::BadArgument);
         }
-        return Amount::Out((0 - n) as u64);
+        return Ok(Amount::Out((0 - n) as u64));
     }
     if MAX_MOVE < n {
-        return Amount::Bad;
+        return Err(Refusal::BadArgument);
     }
-    Amount::In(n as u64)
-}
-
-pub fn over_limit(units: Amount) -> bool
-    ensures { result ≡ over_limit units }
-{
-    match units {
-        Amount::In(m) => return false,
-        Amount::Out(m) => return false,
-        Amount::Bad => return true,
-    }
+    Ok(Amount::In(n as u64))
 }
 
 // The quota that q becomes.
+#[tactic(auto, using(crate::specs::Laws::Amount::in_most, crate::specs::Laws::Amount::quota_in, crate::specs::Laws::Amount::out_most, crate::specs::Laws::Amount::quota_out))]
 pub fn moved(q: u64, units: Amount) -> u64
     requires { (q ≤ root_quota) × Reckoned units q }
     ensures { result ≡ quota_for units q }
 {
     match units {
-        Amount::In(m) => return q + m,
-        Amount::Out(m) => return q - m,
-        Amount::Bad => return q,
+        Amount::In(m) => q + m,
+        Amount::Out(m) => q - m,
     }
 }

@@ -10,14 +10,13 @@ use super::begin::begin;
 use super::creating::{MAX_QUOTA, admit, make_in, or_default, plain_allowed};
 use super::leave::leave;
 use super::lookup::open_container;
-use super::{Answer, Begun, Judged, Refusal};
-use book::Found;
+use super::{Answer, Refusal};
 use book::find::{mask_of, next_of};
 use book::kinds::{CONTAINER, MAX_MASK};
 use book::make::NewRow;
 use labels::Label;
 use labels::bytes::from_bytes;
-use tables::TEXT_SIZE;
+use tables::{Row, TEXT_SIZE, book_in_mut};
 
 // The largest mask, as wide as the one that is lent.
 const MASK_MOST: u64 = MAX_MASK as u64;
@@ -28,18 +27,13 @@ const DEFAULT_QUOTA: u64 = 8;
 fn good_arguments(next: u64, label: &[u8], description: &[u8], mask: u64, quota: u64) -> bool
     ensures { result ≡ (good_label next false label.now && (good_text description.now && (leb mask max_mask && leb quota max_quota))) }
 {
-    if !good_label(label, next, false) {
-        return false;
-    }
-    if !good_text(description) {
-        return false;
-    }
-    if MASK_MOST < mask {
-        return false;
-    }
-    quota <= MAX_QUOTA
+    good_label(label, next, false)
+        && good_text(description)
+        && mask <= MASK_MOST
+        && quota <= MAX_QUOTA
 }
 
+#[tactic(auto, using(crate::specs::Laws::CreateContainer::ways_out))]
 fn judge(
     b: &[u8],
     area: &[u8],
@@ -49,31 +43,21 @@ fn judge(
     description: &[u8],
     mask: u64,
     quota: u64,
-) -> Judged
+) -> Result<Row, Refusal>
     ensures { ContainerJudged b.now area.now caller d label.now description.now mask quota result }
 {
-    let t = match begin(b, area, caller) {
-        Begun::By(t) => t,
-        Begun::Not(r) => return Judged::No(r),
-    };
-    if !good_arguments(next_of(b), label, description, mask, quota) {
-        return Judged::No(Refusal::BadArgument);
+    let (book, t) = begin(b, area, caller)?;
+    if !good_arguments(next_of(book), label, description, mask, quota) {
+        return Err(Refusal::BadArgument);
     }
-    let Found::At(container) = open_container(b, t, d) else {
-        return Judged::No(Refusal::NoEntry);
-    };
-    let allowed = plain_allowed(b, t, label);
-    admit(
-        b,
-        t,
-        container,
-        CONTAINER,
-        or_default(quota, DEFAULT_QUOTA),
-        allowed,
-    )
+    let container = open_container(book, t, d)?;
+    let allowed = plain_allowed(book, t, label);
+    let units = or_default(quota, DEFAULT_QUOTA);
+    admit(book, t, container, CONTAINER, units, allowed)
 }
 
 // RULES 8.4: "The new mask has the bits given and those of D's mask."
+#[tactic(auto, using(crate::specs::Laws::CreateContainer::masks_joined))]
 fn joined(mask: u64, outer: u64) -> u64
     requires { (mask ≤ max_mask) × (outer ≤ max_mask) }
     ensures { (result ≡ bit_or mask outer) × (result < 256) }
@@ -95,6 +79,7 @@ fn new_row(label: Label, mask: u64, quota: u64) -> NewRow
     }
 }
 
+#[tactic(auto, using(crate::specs::Laws::Leave::call_steps, crate::specs::Laws::CreateContainer::arguments_fit))]
 pub fn create_container(
     b: &mut [u8],
     area: &mut [u8],
@@ -108,11 +93,12 @@ pub fn create_container(
     ensures { Done b.old area.old caller (create_container d label.now description.now mask quota) result b.new area.new }
 {
     let c = match judge(b, area, caller, d, label, description, mask, quota) {
-        Judged::Go(c, _) => c,
-        Judged::No(r) => return leave(b, r),
+        Ok(c) => c,
+        Err(r) => return leave(b, r),
     };
-    let all = joined(mask, mask_of(b, c));
+    let book = book_in_mut(b);
+    let all = joined(mask, mask_of(book, c));
     let row = new_row(from_bytes(label), all, or_default(quota, DEFAULT_QUOTA));
     let closure = [0u8; TEXT_SIZE];
-    Answer::Granted(make_in(b, c, row, description, &closure))
+    Ok(make_in(book, c, row, description, &closure))
 }

@@ -9,13 +9,13 @@ use super::begin::begin;
 use super::creating::{admit, cleared_allowed, make_in};
 use super::leave::leave;
 use super::lookup::open_container;
-use super::{Answer, Begun, Judged, Refusal};
-use book::Found;
+use super::{Answer, Refusal};
 use book::find::next_of;
 use book::kinds::GATE;
 use book::make::NewRow;
 use labels::Label;
 use labels::bytes::from_bytes;
+use tables::{Row, book_in_mut};
 
 // RULES 8.6: "As 8.4, with quota 1."
 const QUOTA: u64 = 1;
@@ -29,19 +29,14 @@ fn good_arguments(
 ) -> bool
     ensures { result ≡ (good_label next true label.now && (good_label next false clearance.now && (good_text closure.now && good_text description.now))) }
 {
-    if !good_label(label, next, true) {
-        return false;
-    }
-    if !good_label(clearance, next, false) {
-        return false;
-    }
-    if !good_text(closure) {
-        return false;
-    }
-    good_text(description)
+    good_label(label, next, true)
+        && good_label(clearance, next, false)
+        && good_text(closure)
+        && good_text(description)
 }
 
 // The entry number may be any, so no test looks at it.
+#[tactic(auto, using(crate::specs::Laws::CreateGate::ways_out))]
 fn judge(
     b: &[u8],
     area: &[u8],
@@ -52,21 +47,16 @@ fn judge(
     number: u64,
     closure: &[u8],
     description: &[u8],
-) -> Judged
+) -> Result<Row, Refusal>
     ensures { GateJudged b.now area.now caller d label.now clearance.now number closure.now description.now result }
 {
-    let t = match begin(b, area, caller) {
-        Begun::By(t) => t,
-        Begun::Not(r) => return Judged::No(r),
-    };
-    if !good_arguments(next_of(b), label, clearance, closure, description) {
-        return Judged::No(Refusal::BadArgument);
+    let (book, t) = begin(b, area, caller)?;
+    if !good_arguments(next_of(book), label, clearance, closure, description) {
+        return Err(Refusal::BadArgument);
     }
-    let Found::At(container) = open_container(b, t, d) else {
-        return Judged::No(Refusal::NoEntry);
-    };
-    let allowed = cleared_allowed(b, t, label, clearance);
-    admit(b, t, container, GATE, QUOTA, allowed)
+    let container = open_container(book, t, d)?;
+    let allowed = cleared_allowed(book, t, label, clearance);
+    admit(book, t, container, GATE, QUOTA, allowed)
 }
 
 fn new_row(label: Label, clearance: Label, number: u64) -> NewRow
@@ -82,6 +72,7 @@ fn new_row(label: Label, clearance: Label, number: u64) -> NewRow
     }
 }
 
+#[tactic(auto, using(crate::specs::Laws::Leave::call_steps, crate::specs::Laws::CreateGate::arguments_fit))]
 pub fn create_gate(
     b: &mut [u8],
     area: &mut [u8],
@@ -107,9 +98,9 @@ pub fn create_gate(
         closure,
         description,
     ) {
-        Judged::Go(c, _) => c,
-        Judged::No(r) => return leave(b, r),
+        Ok(c) => c,
+        Err(r) => return leave(b, r),
     };
     let row = new_row(from_bytes(label), from_bytes(clearance), number);
-    Answer::Granted(make_in(b, c, row, description, closure))
+    Ok(make_in(book_in_mut(b), c, row, description, closure))
 }

@@ -9,14 +9,13 @@ use super::begin::begin;
 use super::creating::{MAX_QUOTA, admit, make_in, or_default, plain_allowed};
 use super::leave::leave;
 use super::lookup::open_container;
-use super::{Answer, Begun, Judged, Refusal};
-use book::Found;
+use super::{Answer, Refusal};
 use book::find::next_of;
 use book::kinds::SEGMENT;
 use book::make::NewRow;
 use labels::Label;
 use labels::bytes::from_bytes;
-use tables::TEXT_SIZE;
+use tables::{Row, TEXT_SIZE, book_in_mut};
 
 // RULES 3.7: ".. 0 stands for a default: 8 for a container, 5 for a segment."
 const DEFAULT_QUOTA: u64 = 5;
@@ -24,15 +23,10 @@ const DEFAULT_QUOTA: u64 = 5;
 fn good_arguments(next: u64, label: &[u8], description: &[u8], quota: u64) -> bool
     ensures { result ≡ (good_label next false label.now && (good_text description.now && leb quota max_quota)) }
 {
-    if !good_label(label, next, false) {
-        return false;
-    }
-    if !good_text(description) {
-        return false;
-    }
-    quota <= MAX_QUOTA
+    good_label(label, next, false) && good_text(description) && quota <= MAX_QUOTA
 }
 
+#[tactic(auto, using(crate::specs::Laws::CreateSegment::ways_out))]
 fn judge(
     b: &[u8],
     area: &[u8],
@@ -41,28 +35,17 @@ fn judge(
     label: &[u8],
     description: &[u8],
     quota: u64,
-) -> Judged
+) -> Result<Row, Refusal>
     ensures { SegmentJudged b.now area.now caller d label.now description.now quota result }
 {
-    let t = match begin(b, area, caller) {
-        Begun::By(t) => t,
-        Begun::Not(r) => return Judged::No(r),
-    };
-    if !good_arguments(next_of(b), label, description, quota) {
-        return Judged::No(Refusal::BadArgument);
+    let (book, t) = begin(b, area, caller)?;
+    if !good_arguments(next_of(book), label, description, quota) {
+        return Err(Refusal::BadArgument);
     }
-    let Found::At(container) = open_container(b, t, d) else {
-        return Judged::No(Refusal::NoEntry);
-    };
-    let allowed = plain_allowed(b, t, label);
-    admit(
-        b,
-        t,
-        container,
-        SEGMENT,
-        or_default(quota, DEFAULT_QUOTA),
-        allowed,
-    )
+    let container = open_container(book, t, d)?;
+    let allowed = plain_allowed(book, t, label);
+    let units = or_default(quota, DEFAULT_QUOTA);
+    admit(book, t, container, SEGMENT, units, allowed)
 }
 
 fn new_row(label: Label, quota: u64) -> NewRow
@@ -79,6 +62,7 @@ fn new_row(label: Label, quota: u64) -> NewRow
     }
 }
 
+#[tactic(auto, using(crate::specs::Laws::Leave::call_steps, crate::specs::Laws::CreateSegment::arguments_fit))]
 pub fn create_segment(
     b: &mut [u8],
     area: &mut [u8],
@@ -91,10 +75,10 @@ pub fn create_segment(
     ensures { Done b.old area.old caller (create_segment d label.now description.now quota) result b.new area.new }
 {
     let c = match judge(b, area, caller, d, label, description, quota) {
-        Judged::Go(c, _) => c,
-        Judged::No(r) => return leave(b, r),
+        Ok(c) => c,
+        Err(r) => return leave(b, r),
     };
     let row = new_row(from_bytes(label), or_default(quota, DEFAULT_QUOTA));
     let closure = [0u8; TEXT_SIZE];
-    Answer::Granted(make_in(b, c, row, description, &closure))
+    Ok(make_in(book_in_mut(b), c, row, description, &closure))
 }

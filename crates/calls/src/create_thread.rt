@@ -9,14 +9,13 @@ use super::begin::begin;
 use super::creating::{admit, cleared_allowed, make_in};
 use super::leave::leave;
 use super::lookup::open_container;
-use super::{Answer, Begun, Judged, Refusal};
-use book::Found;
+use super::{Answer, Refusal};
 use book::find::next_of;
 use book::kinds::THREAD;
 use book::make::NewRow;
 use labels::Label;
 use labels::bytes::from_bytes;
-use tables::TEXT_SIZE;
+use tables::{Row, TEXT_SIZE, book_in_mut};
 
 // RULES 8.7: "As 8.4, with quota 1."
 const QUOTA: u64 = 1;
@@ -24,15 +23,10 @@ const QUOTA: u64 = 1;
 fn good_arguments(next: u64, label: &[u8], clearance: &[u8], description: &[u8]) -> bool
     ensures { result ≡ (good_label next true label.now && (good_label next false clearance.now && good_text description.now)) }
 {
-    if !good_label(label, next, true) {
-        return false;
-    }
-    if !good_label(clearance, next, false) {
-        return false;
-    }
-    good_text(description)
+    good_label(label, next, true) && good_label(clearance, next, false) && good_text(description)
 }
 
+#[tactic(auto, using(crate::specs::Laws::CreateThread::ways_out))]
 fn judge(
     b: &[u8],
     area: &[u8],
@@ -41,21 +35,16 @@ fn judge(
     label: &[u8],
     clearance: &[u8],
     description: &[u8],
-) -> Judged
+) -> Result<Row, Refusal>
     ensures { ThreadJudged b.now area.now caller d label.now clearance.now description.now result }
 {
-    let t = match begin(b, area, caller) {
-        Begun::By(t) => t,
-        Begun::Not(r) => return Judged::No(r),
-    };
-    if !good_arguments(next_of(b), label, clearance, description) {
-        return Judged::No(Refusal::BadArgument);
+    let (book, t) = begin(b, area, caller)?;
+    if !good_arguments(next_of(book), label, clearance, description) {
+        return Err(Refusal::BadArgument);
     }
-    let Found::At(container) = open_container(b, t, d) else {
-        return Judged::No(Refusal::NoEntry);
-    };
-    let allowed = cleared_allowed(b, t, label, clearance);
-    admit(b, t, container, THREAD, QUOTA, allowed)
+    let container = open_container(book, t, d)?;
+    let allowed = cleared_allowed(book, t, label, clearance);
+    admit(book, t, container, THREAD, QUOTA, allowed)
 }
 
 fn new_row(label: Label, clearance: Label) -> NewRow
@@ -71,6 +60,7 @@ fn new_row(label: Label, clearance: Label) -> NewRow
     }
 }
 
+#[tactic(auto, using(crate::specs::Laws::Leave::call_steps, crate::specs::Laws::CreateThread::arguments_fit))]
 pub fn create_thread(
     b: &mut [u8],
     area: &mut [u8],
@@ -83,10 +73,10 @@ pub fn create_thread(
     ensures { Done b.old area.old caller (create_thread d label.now clearance.now description.now) result b.new area.new }
 {
     let c = match judge(b, area, caller, d, label, clearance, description) {
-        Judged::Go(c, _) => c,
-        Judged::No(r) => return leave(b, r),
+        Ok(c) => c,
+        Err(r) => return leave(b, r),
     };
     let row = new_row(from_bytes(label), from_bytes(clearance));
     let closure = [0u8; TEXT_SIZE];
-    Answer::Granted(make_in(b, c, row, description, &closure))
+    Ok(make_in(book_in_mut(b), c, row, description, &closure))
 }

@@ -2,26 +2,29 @@
 ghost use Rattle.std.specs.Prelude.{◌≡◌, ◌≤◌, ◌<◌, length};
 ghost use Rattle.labels.specs.Core as core;
 ghost use Rattle.rules.specs.Kernel.{or_default};
-ghost use Rattle.tables.specs.Layout.{view, size, row_count};
+ghost use Rattle.tables.specs.Layout.{view};
 ghost use Rattle.book.specs.Book.{next_of, label_of, clearance_of};
 ghost use Rattle.book.specs.Make.{object_of, created_in, Creating};
 ghost use Rattle.book.specs.Sound.{Sound, Live};
 ghost use Rattle.calls.specs.Conditions.{tested};
 ghost use Rattle.calls.specs.Creating.{plain_conditions, cleared_conditions, admitted};
 
-use super::conditions::{flow, writing};
+use super::Refusal;
+use super::conditions::{ask_two, writing};
 use super::masks::forbids;
-use super::{Judged, Refusal, Tested};
 use book::find::next_of;
 use book::in_place::{clearance_of, label_of};
 use book::make::{NewRow, create};
 use book::units::spare_of;
+use labels::Rule;
 use labels::in_place::from_bytes;
+use tables::{Book, Row};
 
 // RULES 3.7: "The quota given to call 4 or 5 is at most 255, .."
 pub const MAX_QUOTA: u64 = 255;
 
 // RULES 3.7: ".. and 0 stands for a default: .."
+#[tactic(auto, unfolding(rules::specs::Kernel::or_default))]
 pub fn or_default(quota: u64, default: u64) -> u64
     ensures { result ≡ or_default quota default }
 {
@@ -33,62 +36,56 @@ pub fn or_default(quota: u64, default: u64) -> u64
 
 // The label conditions of a new object without a clearance, beside that of writing the container: the thread at row t flows to the label, and that to
 // the thread's clearance.
-pub fn plain_allowed(b: &[u8], t: usize, label: &[u8]) -> Tested
-    requires { (length b.now ≡ size) × (t < row_count) × (length label.now ≡ core.label_size) }
+#[tactic(auto, unfolding(crate::specs::Conditions::tested, rules::specs::Kernel::all_hold, rules::specs::Kernel::flow))]
+pub fn plain_allowed(b: &Book, t: Row, label: &[u8]) -> Result<(), Refusal>
+    requires { length label.now ≡ core.label_size }
     ensures { result ≡ tested (plain_conditions (label_of (view b.now) t) (clearance_of (view b.now) t) (core.label_of label.now)) }
 {
     let new = from_bytes(label);
-    match flow(b, label_of(b, t), label, new) {
-        Tested::Pass => {}
-        Tested::Fail(r) => return Tested::Fail(r),
-    }
-    flow(label, new, b, clearance_of(b, t))
+    ask_two(Rule::Flows, label_of(b, t), new)?;
+    ask_two(Rule::Flows, new, clearance_of(b, t))
 }
 
 // The same of one with a clearance, which stands between the two.
-pub fn cleared_allowed(b: &[u8], t: usize, label: &[u8], clearance: &[u8]) -> Tested
-    requires { (length b.now ≡ size) × (t < row_count) × (length label.now ≡ core.label_size) × (length clearance.now ≡ core.label_size) }
+#[tactic(auto, unfolding(crate::specs::Conditions::tested, rules::specs::Kernel::all_hold, rules::specs::Kernel::flow))]
+pub fn cleared_allowed(b: &Book, t: Row, label: &[u8], clearance: &[u8]) -> Result<(), Refusal>
+    requires { (length label.now ≡ core.label_size) × (length clearance.now ≡ core.label_size) }
     ensures { result ≡ tested (cleared_conditions (label_of (view b.now) t) (clearance_of (view b.now) t)
         (core.label_of label.now) (core.label_of clearance.now)) }
 {
     let new = from_bytes(label);
     let most = from_bytes(clearance);
-    match flow(b, label_of(b, t), label, new) {
-        Tested::Pass => {}
-        Tested::Fail(r) => return Tested::Fail(r),
-    }
-    match flow(label, new, clearance, most) {
-        Tested::Pass => {}
-        Tested::Fail(r) => return Tested::Fail(r),
-    }
-    flow(clearance, most, b, clearance_of(b, t))
+    ask_two(Rule::Flows, label_of(b, t), new)?;
+    ask_two(Rule::Flows, new, most)?;
+    ask_two(Rule::Flows, most, clearance_of(b, t))
 }
 
 // Whether the thread at row t may create an object in the container at row c, by the tests from 7 on: `code` is that of the object's kind, and
 // `allowed` says what its own label conditions came to. Granted with the container's row.
-pub fn admit(b: &[u8], t: usize, c: usize, code: u8, quota: u64, allowed: Tested) -> Judged
-    requires { (length b.now ≡ size) × Sound (view b.now) × (t < row_count) × Live (view b.now) c × (1 ≤ code) × (code ≤ 64) }
+pub fn admit(
+    b: &Book,
+    t: Row,
+    c: Row,
+    code: u8,
+    quota: u64,
+    allowed: Result<(), Refusal>,
+) -> Result<Row, Refusal>
+    requires { Sound (view b.now) × Live (view b.now) c × (1 ≤ code) × (code ≤ 64) }
     ensures { result ≡ admitted (view b.now) t c code quota allowed }
 {
-    match writing(b, label_of(b, t), b, label_of(b, c)) {
-        Tested::Pass => {}
-        Tested::Fail(r) => return Judged::No(r),
-    }
-    match allowed {
-        Tested::Pass => {}
-        Tested::Fail(r) => return Judged::No(r),
-    }
+    writing(label_of(b, t), label_of(b, c))?;
+    allowed?;
     if forbids(b, c, code) {
-        return Judged::No(Refusal::MaskForbids);
+        return Err(Refusal::MaskForbids);
     }
     if spare_of(b, c) < quota {
-        return Judged::No(Refusal::NoSpare);
+        return Err(Refusal::NoSpare);
     }
-    Judged::Go(c, 0)
+    Ok(c)
 }
 
 // Makes the object in the container at row c; the number it gets.
-pub fn make_in(b: &mut [u8], c: usize, row: NewRow, description: &[u8], closure: &[u8]) -> u64
+pub fn make_in(b: &mut Book, c: Row, row: NewRow, description: &[u8], closure: &[u8]) -> u64
     requires { Creating b.old c row description.now closure.now }
     ensures value { result ≡ next_of (view b.old) }
     ensures b_after { view b.new ≡ created_in c (object_of row description.now closure.now) (view b.old) }

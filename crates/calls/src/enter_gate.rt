@@ -1,96 +1,56 @@
 // Call 15: the caller enters a gate.
-ghost use Rattle.std.specs.Prelude.{◌≡◌, ◌<◌, length};
-ghost use Rattle.labels.specs.Core.{label_size, held_in};
+ghost use Rattle.std.specs.Prelude.{◌≡◌, length};
+ghost use Rattle.labels.specs.Core.{label_size};
 ghost use Rattle.rules.specs.Kernel.{enter_gate};
-ghost use Rattle.tables.specs.Layout.{view, size, row_count};
+ghost use Rattle.tables.specs.Layout.{view};
 ghost use Rattle.calls.specs.Conditions.{tested};
-ghost use Rattle.calls.specs.EnterGate.{good_gate, gate_conditions, asks_at, EnterJudged};
+ghost use Rattle.calls.specs.EnterGate.{good_gate, asks_at, EnterJudged};
 ghost use Rattle.calls.specs.Outcome.{DoneWith};
 
 use super::arguments::good_label;
 use super::begin::begin;
-use super::conditions::{floor_flow, flow, flow_join};
+use super::conditions::{ask, ask_two};
 use super::leave::leave;
 use super::lookup::open_entry;
 use super::relabel::take_labels;
-use super::{Answer, Begun, Judged, Refusal, Tested};
-use book::find::{Entry, closure_into, entry_number_of, kind_of, next_of};
+use super::{Answer, Refusal};
+use book::find::{closure_into, entry_number_of, kind_of, next_of};
 use book::in_place::{clearance_of, label_of};
 use book::kinds::GATE;
-use labels::Held;
+use labels::Rule;
 use labels::in_place::from_bytes;
-use tables::TEXT_SIZE;
+use tables::{Book, Row, TEXT_SIZE, book_in_mut};
 
 // Whether L_R, C_R, L_V and the output's length are as they should be.
+#[tactic(auto, unfolding(crate::specs::EnterGate::good_gate))]
 fn good(next: u64, lr: &[u8], cr: &[u8], lv: &[u8], n: usize) -> bool
     ensures { result ≡ good_gate next lr.now cr.now lv.now n }
 {
-    if !good_label(lr, next, true) {
-        return false;
-    }
-    if !good_label(cr, next, false) {
-        return false;
-    }
-    if !good_label(lv, next, true) {
-        return false;
-    }
-    n == TEXT_SIZE
+    good_label(lr, next, true)
+        && good_label(cr, next, false)
+        && good_label(lv, next, true)
+        && n == TEXT_SIZE
 }
 
 // RULES 8.15: "7 unless T flows to G's clearance, T flows to L_V, floor(T, G) flows to L_R, L_R flows to C_R, and C_R flows to join(T's clearance, G's clearance)."
-fn allowed(
-    b: &[u8],
-    mine: Held,
-    cleared: Held,
-    gate: Held,
-    guard: Held,
-    lr: &[u8],
-    taken: Held,
-    cr: &[u8],
-    limit: Held,
-    lv: &[u8],
-    shown: Held,
-) -> Tested
-    ensures { result ≡ tested (gate_conditions (held_in b.now mine) (held_in b.now cleared)
-        (held_in b.now gate) (held_in b.now guard)
-        (held_in lr.now taken) (held_in cr.now limit) (held_in lv.now shown)) }
-{
-    match flow(b, mine, b, guard) {
-        Tested::Pass => {}
-        Tested::Fail(r) => return Tested::Fail(r),
-    }
-    match flow(b, mine, lv, shown) {
-        Tested::Pass => {}
-        Tested::Fail(r) => return Tested::Fail(r),
-    }
-    match floor_flow(b, mine, b, gate, lr, taken) {
-        Tested::Pass => {}
-        Tested::Fail(r) => return Tested::Fail(r),
-    }
-    match flow(lr, taken, cr, limit) {
-        Tested::Pass => {}
-        Tested::Fail(r) => return Tested::Fail(r),
-    }
-    flow_join(cr, limit, b, cleared, b, guard)
-}
-
-// The same of the thread at row t, the gate at row r and the bytes lent.
-fn conditions(b: &[u8], t: usize, r: usize, lr: &[u8], cr: &[u8], lv: &[u8]) -> Tested
-    requires { (length b.now ≡ size) × (t < row_count) × (r < row_count) × (length lr.now ≡ label_size) × (length cr.now ≡ label_size) × (length lv.now ≡ label_size) }
+// Of the thread at row t and the gate at row r.
+#[tactic(auto, unfolding(crate::specs::Conditions::tested, rules::specs::Kernel::all_hold, rules::specs::Kernel::flow, rules::specs::Kernel::floor_flow, rules::specs::Kernel::flow_join))]
+fn conditions(b: &Book, t: Row, r: Row, lr: &[u8], cr: &[u8], lv: &[u8]) -> Result<(), Refusal>
+    requires { (length lr.now ≡ label_size) × (length cr.now ≡ label_size) × (length lv.now ≡ label_size) }
     ensures { result ≡ tested (asks_at (view b.now) t r lr.now cr.now lv.now) }
 {
     let mine = label_of(b, t);
-    let cleared = clearance_of(b, t);
-    let gate = label_of(b, r);
     let guard = clearance_of(b, r);
     let taken = from_bytes(lr);
     let limit = from_bytes(cr);
-    let shown = from_bytes(lv);
-    allowed(
-        b, mine, cleared, gate, guard, lr, taken, cr, limit, lv, shown,
-    )
+    ask_two(Rule::Flows, mine, guard)?;
+    ask_two(Rule::Flows, mine, from_bytes(lv))?;
+    ask(Rule::FloorFlows, mine, label_of(b, r), taken)?;
+    ask_two(Rule::Flows, taken, limit)?;
+    ask(Rule::FlowsJoin, limit, clearance_of(b, t), guard)
 }
 
+#[tactic(auto, using(crate::specs::Laws::EnterGate::ways_out))]
 fn judge(
     b: &[u8],
     area: &[u8],
@@ -101,29 +61,23 @@ fn judge(
     cr: &[u8],
     lv: &[u8],
     n: usize,
-) -> Judged
+) -> Result<(Row, Row), Refusal>
     ensures { EnterJudged b.now area.now caller d g lr.now cr.now lv.now n result }
 {
-    let t = match begin(b, area, caller) {
-        Begun::By(t) => t,
-        Begun::Not(r) => return Judged::No(r),
-    };
-    if !good(next_of(b), lr, cr, lv, n) {
-        return Judged::No(Refusal::BadArgument);
+    let (book, t) = begin(b, area, caller)?;
+    if !good(next_of(book), lr, cr, lv, n) {
+        return Err(Refusal::BadArgument);
     }
-    let Entry::In { object, .. } = open_entry(b, t, d, g) else {
-        return Judged::No(Refusal::NoEntry);
-    };
-    if kind_of(b, object) != GATE {
-        return Judged::No(Refusal::WrongKind);
+    let place = open_entry(book, t, d, g)?;
+    let object = place.object;
+    if kind_of(book, object) != GATE {
+        return Err(Refusal::WrongKind);
     }
-    match conditions(b, t, object, lr, cr, lv) {
-        Tested::Pass => {}
-        Tested::Fail(r) => return Judged::No(r),
-    }
-    Judged::Go(t, object)
+    conditions(book, t, object, lr, cr, lv)?;
+    Ok((t, object))
 }
 
+#[tactic(auto, using(crate::specs::Laws::Leave::leavable, crate::specs::Laws::Prelude::book_long))]
 pub fn enter_gate(
     b: &mut [u8],
     area: &mut [u8],
@@ -141,15 +95,16 @@ pub fn enter_gate(
 {
     let n = out.len();
     match judge(b, area, caller, d, g, lr, cr, lv, n) {
-        Judged::Go(t, r) => {
-            let value = entry_number_of(b, r);
-            closure_into(b, r, out);
+        Ok((t, r)) => {
+            let book = book_in_mut(b);
+            let value = entry_number_of(book, r);
+            closure_into(book, r, out);
             // Values, since they are stored.
             let taken = labels::bytes::from_bytes(lr);
             let limit = labels::bytes::from_bytes(cr);
-            take_labels(b, t, taken, limit);
-            Answer::Granted(value)
+            take_labels(book, t, taken, limit);
+            Ok(value)
         }
-        Judged::No(r) => return leave(b, r),
+        Err(r) => leave(b, r),
     }
 }

@@ -2,71 +2,58 @@
 ghost use Rattle.std.specs.Prelude.{◌≡◌, [], ◌∷◌, ◌++◌};
 ghost use Rattle.calls.specs.Outcome.{Done};
 ghost use Rattle.calls.specs.FixQuota.{FixJudged};
-ghost use Rattle.labels.specs.Core.{held_in};
+ghost use Rattle.labels.specs.Core.{meant};
 ghost use Rattle.rules.specs.Kernel as kernel;
 ghost use Rattle.calls.specs.Conditions.{tested};
 
 use super::begin::begin;
-use super::conditions::{flow, writing};
+use super::conditions::{ask_two, writing};
 use super::leave::leave;
 use super::lookup::open_entry;
-use super::{Answer, Begun, Judged, Refusal, Tested};
+use super::{Answer, Refusal};
 use book::alter::{fix, move_on};
-use book::find::{Entry, kind_of};
+use book::find::kind_of;
 use book::in_place::label_of;
 use book::kinds::SEGMENT;
-use labels::Held;
+use labels::{LabelRef, Rule};
+use tables::{Row, book_in_mut};
 
 // RULES 8.10: "7 unless T may write D and T flows to O."
-fn allowed(b: &[u8], mine: Held, holder: Held, theirs: Held) -> Tested
-    ensures { result ≡ tested (kernel.writing (held_in b.now mine) (held_in b.now holder)
-        ++ (kernel.flow (held_in b.now mine) (held_in b.now theirs) ∷ [])) }
+#[tactic(auto, unfolding(crate::specs::Conditions::tested, rules::specs::Kernel::all_hold, rules::specs::Kernel::flow, rules::specs::Kernel::writing, rules::specs::Kernel::reading))]
+fn allowed(mine: LabelRef, holder: LabelRef, theirs: LabelRef) -> Result<(), Refusal>
+    ensures { result ≡ tested (kernel.writing (meant mine.entry) (meant holder.entry)
+        ++ (kernel.flow (meant mine.entry) (meant theirs.entry) ∷ [])) }
 {
-    match writing(b, mine, b, holder) {
-        Tested::Pass => {}
-        Tested::Fail(r) => return Tested::Fail(r),
-    }
-    flow(b, mine, b, theirs)
+    writing(mine, holder)?;
+    ask_two(Rule::Flows, mine, theirs)
 }
 
-fn judge(b: &[u8], area: &[u8], caller: u64, d: u64, o: u64) -> Judged
+#[tactic(auto, using(crate::specs::Laws::FixQuota::ways_out))]
+fn judge(b: &[u8], area: &[u8], caller: u64, d: u64, o: u64) -> Result<Row, Refusal>
     ensures { FixJudged b.now area.now caller d o result }
 {
-    let t = match begin(b, area, caller) {
-        Begun::By(t) => t,
-        Begun::Not(r) => return Judged::No(r),
-    };
-    let Entry::In {
-        container,
-        object,
-        ..
-    } = open_entry(b, t, d, o)
-    else {
-        return Judged::No(Refusal::NoEntry);
-    };
-    if kind_of(b, object) != SEGMENT {
-        return Judged::No(Refusal::WrongKind);
+    let (book, t) = begin(b, area, caller)?;
+    let place = open_entry(book, t, d, o)?;
+    let object = place.object;
+    if kind_of(book, object) != SEGMENT {
+        return Err(Refusal::WrongKind);
     }
-    match allowed(
-        b,
-        label_of(b, t),
-        label_of(b, container),
-        label_of(b, object),
-    ) {
-        Tested::Pass => {}
-        Tested::Fail(r) => return Judged::No(r),
-    }
-    Judged::Go(object, 0)
+    let mine = label_of(book, t);
+    let holder = label_of(book, place.container);
+    allowed(mine, holder, label_of(book, object))?;
+    Ok(object)
 }
 
+#[tactic(auto, using(crate::specs::Laws::Leave::leavable, crate::specs::Laws::Prelude::book_long, crate::specs::Laws::FixQuota::fixed_number))]
 pub fn fix_quota(b: &mut [u8], area: &mut [u8], caller: u64, d: u64, o: u64) -> Answer
     ensures { Done b.old area.old caller (kernel.fix_quota d o) result b.new area.new }
 {
     let row = match judge(b, area, caller, d, o) {
-        Judged::Go(row, _) => row,
-        Judged::No(r) => return leave(b, r),
+        Ok(row) => row,
+        Err(r) => return leave(b, r),
     };
-    fix(b, row);
-    move_on(b);
-    Answer::Granted(0)
+    let book = book_in_mut(b);
+    fix(book, row);
+    move_on(book);
+    Ok(0)
 }

@@ -1,15 +1,11 @@
 // The calls of docs/RULES.md, section 8: each judges, by labels and book, what the rules say of the world that the areas spell, and enacts it.
 #![tactic(auto)]
 
-// What a call answers: granted with its value, or refused by its number.
-#[derive(Clone, Copy)]
-pub enum Answer {
-    Granted(u64),
-    Refused(u64),
-}
+// What a call answers: granted with its value, or refused.
+pub type Answer = Result<u64, Refusal>;
 
 // Why a call is refused (RULES 6), by the names of the C header.
-#[derive(Clone, Copy)]
+#[derive(Clone, Copy, PartialEq, Eq, Debug)]
 pub enum Refusal {
     BadArea,
     NumbersEnded,
@@ -24,27 +20,6 @@ pub enum Refusal {
     BeyondLength,
     NinthPair,
     NoSpare,
-}
-
-// What every call asks first: the row of the calling thread, or a refusal by 1, 2 or 3.
-#[derive(Clone, Copy)]
-pub enum Begun {
-    By(usize),
-    Not(Refusal),
-}
-
-// What testing label conditions comes to.
-#[derive(Clone, Copy)]
-pub enum Tested {
-    Pass,
-    Fail(Refusal),
-}
-
-// What judging a call comes to: the rows or links that it is to be done on, or a refusal.
-#[derive(Clone, Copy)]
-pub enum Judged {
-    Go(usize, usize),
-    No(Refusal),
 }
 
 pub mod spread; // spread.rt: an answer as two numbers

@@ -1,46 +1,34 @@
 // The lookups of calls 4 to 16: a container that the caller may read, and an entry of one. Nothing found is refusal 5.
-ghost use Rattle.std.specs.Prelude.{◌≡◌, ◌<◌, length};
-ghost use Rattle.tables.specs.Layout.{view, size, row_count};
+ghost use Rattle.std.specs.Prelude.{◌≡◌};
+ghost use Rattle.tables.specs.Layout.{view};
 ghost use Rattle.calls.specs.Lookup.{open_container, open_entry};
 
-use book::Found;
+use super::Refusal;
 use book::find::{Entry, container_of, entry_of};
 use book::in_place::label_of;
 use labels::compare::may_read;
+use tables::{Book, Row};
 
 // The row of the container d, if the thread at row t may read it.
-pub fn open_container(b: &[u8], t: usize, d: u64) -> Found
-    requires { (length b.now ≡ size) × (t < row_count) }
+#[tactic(auto, unfolding(crate::specs::Lookup::open_container))]
+pub fn open_container(b: &Book, t: Row, d: u64) -> Result<Row, Refusal>
     ensures { result ≡ open_container (view b.now) t d }
 {
-    let Found::At(container) = container_of(b, d) else {
-        return Found::Nothing;
-    };
-    if !may_read(b, label_of(b, t), b, label_of(b, container)) {
-        return Found::Nothing;
+    let container = container_of(b, d).ok_or(Refusal::NoEntry)?;
+    if !may_read(label_of(b, t), label_of(b, container)) {
+        return Err(Refusal::NoEntry);
     }
-    Found::At(container)
+    Ok(container)
 }
 
 // The place of the object o in the container d, if the thread at row t may read the container.
-pub fn open_entry(b: &[u8], t: usize, d: u64, o: u64) -> Entry
-    requires { (length b.now ≡ size) × (t < row_count) }
+#[tactic(auto, using(crate::specs::Laws::Lookup::ways_out))]
+pub fn open_entry(b: &Book, t: Row, d: u64, o: u64) -> Result<Entry, Refusal>
     ensures { result ≡ open_entry (view b.now) t d o }
 {
-    let Entry::In {
-        container,
-        object,
-        link,
-    } = entry_of(b, d, o)
-    else {
-        return Entry::Nothing;
-    };
-    if !may_read(b, label_of(b, t), b, label_of(b, container)) {
-        return Entry::Nothing;
+    let entry = entry_of(b, d, o).ok_or(Refusal::NoEntry)?;
+    if !may_read(label_of(b, t), label_of(b, entry.container)) {
+        return Err(Refusal::NoEntry);
     }
-    Entry::In {
-        container,
-        object,
-        link,
-    }
+    Ok(entry)
 }

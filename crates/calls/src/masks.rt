@@ -1,9 +1,10 @@
 // Which kinds a container forbids.
-ghost use Rattle.std.specs.Prelude.{◌≡◌, ◌≤◌, ◌<◌, ◌/◌, ◌%◌, ◌^◌, eqb, length};
-ghost use Rattle.tables.specs.Layout.{view, size, row_count};
+ghost use Rattle.std.specs.Prelude.{◌≡◌, ◌≤◌, ◌<◌, ◌/◌, ◌%◌, ◌^◌, eqb};
+ghost use Rattle.tables.specs.Layout.{view};
 ghost use Rattle.calls.specs.Masks.{forbids_at};
 
 use book::find::mask_of;
+use tables::{Book, Row};
 
 // Whether the mask's bit at `place` is set.
 fn bit_set(mask: u64, place: u64) -> bool
@@ -14,8 +15,8 @@ fn bit_set(mask: u64, place: u64) -> bool
 }
 
 // RULES 1.6: ".. bit 0 forbids threads, bit 1 gates, bit 2 segments and bit 3 containers." Whether the container at row c forbids the kind of this code.
-pub fn forbids(b: &[u8], c: usize, code: u8) -> bool
-    requires { (length b.now ≡ size) × (c < row_count) × (1 ≤ code) × (code ≤ 64) }
+pub fn forbids(b: &Book, c: Row, code: u8) -> bool
+    requires { (1 ≤ code) × (code ≤ 64) }
     ensures { result ≡ forbids_at (view b.now) c code }
 {
     bit_set(mask_of(b, c), code as u64 - 1)

@@ -1,146 +1,127 @@
 // Call 11: units moved from a container into what it holds, or back.
-ghost use Rattle.std.specs.Prelude.{◌||◌, ◌≡◌, ◌∷◌, ◌++◌, ◌<◌, eqb, length};
-ghost use Rattle.labels.specs.Core.{held_in};
-ghost use Rattle.tables.specs.Layout.{view, size, row_count};
+ghost use Rattle.std.specs.Prelude.{◌||◌, ◌≡◌, ◌∷◌, ◌++◌, eqb};
+ghost use Rattle.labels.specs.Core.{meant};
+ghost use Rattle.tables.specs.Layout.{view};
 ghost use Rattle.book.specs.Sound.{Live, Sound};
 ghost use Rattle.calls.specs.Amount.{more_for, room_at};
-ghost use Rattle.calls.specs.MoveQuota.{MeansMoving, is_fixed};
+ghost use Rattle.calls.specs.MoveQuota.{MoveJudged, is_fixed};
 ghost use Rattle.calls.specs.Outcome.{Done};
 ghost use Rattle.rules.specs.Kernel as kernel;
 ghost use Rattle.rules.specs.Kernel.{segment_code, container_code};
 ghost use Rattle.calls.specs.Conditions.{tested};
 
-use super::amount::{Amount, moved, over_limit, units_of};
+use super::amount::{Amount, moved, units_of};
 use super::begin::begin;
-use super::conditions::{flow, reading, writing};
+use super::conditions::{ask_two, reading, writing};
 use super::leave::leave;
 use super::lookup::open_entry;
-use super::{Answer, Begun, Judged, Refusal, Tested};
+use super::{Answer, Refusal};
 use book::alter::{move_on, set_quota};
-use book::find::{Entry, fixed_of, kind_of, quota_of};
+use book::find::{fixed_of, kind_of, quota_of};
 use book::in_place::{clearance_of, label_of};
 use book::kinds::{CONTAINER, SEGMENT};
 use book::units::spare_of;
-use labels::Held;
+use labels::{LabelRef, Rule};
+use tables::{Book, Row, book_in_mut};
 
 // A segment or a container.
 fn movable(kind: u8) -> bool
     ensures { result ≡ (eqb kind segment_code || eqb kind container_code) }
 {
-    if kind == SEGMENT {
-        return true;
-    }
-    kind == CONTAINER
+    kind == SEGMENT || kind == CONTAINER
 }
 
 // RULES 8.11: ".. and, for n below 0, O flows to high(T)."
-fn readable(b: &[u8], mine: Held, theirs: Held, units: Amount) -> Tested
-    ensures { result ≡ tested (more_for units (held_in b.now mine) (held_in b.now theirs)) }
+#[tactic(auto, using(crate::specs::Laws::Conditions::none_asked))]
+fn readable(mine: LabelRef, theirs: LabelRef, units: Amount) -> Result<(), Refusal>
+    ensures { result ≡ tested (more_for units (meant mine.entry) (meant theirs.entry)) }
 {
     match units {
-        Amount::In(m) => return Tested::Pass,
-        Amount::Out(m) => return reading(b, mine, b, theirs),
-        Amount::Bad => return Tested::Pass,
+        Amount::In(_) => Ok(()),
+        Amount::Out(_) => reading(mine, theirs),
     }
 }
 
 // RULES 8.11: "7 unless T may write D, T flows to O, O flows to T's clearance and, for n below 0, O flows to high(T)."
-fn allowed(b: &[u8], mine: Held, clear: Held, holder: Held, theirs: Held, units: Amount) -> Tested
-    ensures { result ≡ tested (kernel.writing (held_in b.now mine) (held_in b.now holder)
-        ++ (kernel.flow (held_in b.now mine) (held_in b.now theirs) ∷ kernel.flow (held_in b.now theirs) (held_in b.now clear)
-        ∷ more_for units (held_in b.now mine) (held_in b.now theirs))) }
+#[tactic(auto, unfolding(crate::specs::Conditions::tested, rules::specs::Kernel::all_hold, rules::specs::Kernel::flow, rules::specs::Kernel::writing, rules::specs::Kernel::reading))]
+fn allowed(
+    mine: LabelRef,
+    clear: LabelRef,
+    holder: LabelRef,
+    theirs: LabelRef,
+    units: Amount,
+) -> Result<(), Refusal>
+    ensures { result ≡ tested (kernel.writing (meant mine.entry) (meant holder.entry)
+        ++ (kernel.flow (meant mine.entry) (meant theirs.entry) ∷ kernel.flow (meant theirs.entry) (meant clear.entry)
+        ∷ more_for units (meant mine.entry) (meant theirs.entry))) }
 {
-    match writing(b, mine, b, holder) {
-        Tested::Pass => {}
-        Tested::Fail(r) => return Tested::Fail(r),
-    }
-    match flow(b, mine, b, theirs) {
-        Tested::Pass => {}
-        Tested::Fail(r) => return Tested::Fail(r),
-    }
-    match flow(b, theirs, b, clear) {
-        Tested::Pass => {}
-        Tested::Fail(r) => return Tested::Fail(r),
-    }
-    readable(b, mine, theirs, units)
+    writing(mine, holder)?;
+    ask_two(Rule::Flows, mine, theirs)?;
+    ask_two(Rule::Flows, theirs, clear)?;
+    readable(mine, theirs, units)
 }
 
 // Only a segment's quota can be fixed; in other rows the mark is an unused byte.
-fn is_fixed(b: &[u8], r: usize) -> bool
-    requires { (length b.now ≡ size) × (r < row_count) }
+#[tactic(auto, unfolding(crate::specs::MoveQuota::is_fixed))]
+fn is_fixed(b: &Book, r: Row) -> bool
     ensures { result ≡ is_fixed (view b.now) r }
 {
-    if kind_of(b, r) != SEGMENT {
-        return false;
-    }
-    fixed_of(b, r)
+    kind_of(b, r) == SEGMENT && fixed_of(b, r)
 }
 
 // RULES 8.11: "13 if n is above D's spare, or if n is below 0 and -n is above O's spare."
-fn has_room(b: &[u8], container: usize, object: usize, units: Amount) -> bool
-    requires { (length b.now ≡ size) × Sound (view b.now) × Live (view b.now) container × Live (view b.now) object }
+fn has_room(b: &Book, container: Row, object: Row, units: Amount) -> bool
+    requires { Sound (view b.now) × Live (view b.now) container × Live (view b.now) object }
     ensures { result ≡ room_at units (view b.now) container object }
 {
     match units {
-        Amount::In(m) => return m <= spare_of(b, container),
-        Amount::Out(m) => return m <= spare_of(b, object),
-        Amount::Bad => return false,
+        Amount::In(m) => m <= spare_of(b, container),
+        Amount::Out(m) => m <= spare_of(b, object),
     }
 }
 
-fn judge(b: &[u8], area: &[u8], caller: u64, d: u64, o: u64, units: Amount) -> Judged
-    ensures { MeansMoving b.now area.now caller d o units result }
+#[tactic(auto, using(crate::specs::Laws::MoveQuota::ways_out))]
+fn judge(
+    b: &[u8],
+    area: &[u8],
+    caller: u64,
+    d: u64,
+    o: u64,
+    n: i64,
+) -> Result<(Row, Amount), Refusal>
+    ensures { MoveJudged b.now area.now caller d o n result }
 {
-    let t = match begin(b, area, caller) {
-        Begun::By(t) => t,
-        Begun::Not(r) => return Judged::No(r),
-    };
-    if over_limit(units) {
-        return Judged::No(Refusal::BadArgument);
+    let (book, t) = begin(b, area, caller)?;
+    let units = units_of(n)?;
+    let place = open_entry(book, t, d, o)?;
+    let object = place.object;
+    if !movable(kind_of(book, object)) {
+        return Err(Refusal::WrongKind);
     }
-    let Entry::In {
-        container,
-        object,
-        ..
-    } = open_entry(b, t, d, o)
-    else {
-        return Judged::No(Refusal::NoEntry);
-    };
-    if !movable(kind_of(b, object)) {
-        return Judged::No(Refusal::WrongKind);
+    let mine = label_of(book, t);
+    let clear = clearance_of(book, t);
+    let holder = label_of(book, place.container);
+    allowed(mine, clear, holder, label_of(book, object), units)?;
+    if is_fixed(book, object) {
+        return Err(Refusal::QuotaFixed);
     }
-    let mine = label_of(b, t);
-    let holder = label_of(b, container);
-    match allowed(
-        b,
-        mine,
-        clearance_of(b, t),
-        holder,
-        label_of(b, object),
-        units,
-    ) {
-        Tested::Pass => {}
-        Tested::Fail(r) => return Judged::No(r),
+    if !has_room(book, place.container, object, units) {
+        return Err(Refusal::NoSpare);
     }
-    if is_fixed(b, object) {
-        return Judged::No(Refusal::QuotaFixed);
-    }
-    if !has_room(b, container, object, units) {
-        return Judged::No(Refusal::NoSpare);
-    }
-    Judged::Go(object, 0)
+    Ok((object, units))
 }
 
+#[tactic(auto, using(crate::specs::Laws::Leave::leavable, crate::specs::Laws::Prelude::book_long, crate::specs::Laws::MoveQuota::moved_number))]
 pub fn move_quota(b: &mut [u8], area: &mut [u8], caller: u64, d: u64, o: u64, n: i64) -> Answer
     ensures { Done b.old area.old caller (kernel.move_quota d o n) result b.new area.new }
 {
-    let units = units_of(n);
-    let row = match judge(b, area, caller, d, o, units) {
-        Judged::Go(row, _) => row,
-        Judged::No(r) => return leave(b, r),
+    let (row, units) = match judge(b, area, caller, d, o, n) {
+        Ok(moving) => moving,
+        Err(r) => return leave(b, r),
     };
-    let q = moved(quota_of(b, row), units);
-    set_quota(b, row, q);
-    move_on(b);
-    Answer::Granted(0)
+    let book = book_in_mut(b);
+    let q = moved(quota_of(book, row), units);
+    set_quota(book, row, q);
+    move_on(book);
+    Ok(0)
 }

@@ -1,22 +1,18 @@
 // Call 12: part of a segment's block read. What is handed back is that part of the data area itself.
 ghost use Rattle.calls.specs.Read.{LocatedAs, Shown, ReadJudged};
 
+use super::Refusal;
 use super::begin::begin;
+use super::conditions::reading;
 use super::leave::leave;
 use super::lookup::open_entry;
-use super::part::{find_part, good_part};
+use super::part::{Part, find_part};
 use super::spread::spread;
-use super::{Answer, Begun, Judged, Refusal};
 use book::alter::move_on;
-use book::find::Entry;
+use book::in_place::label_of;
+use tables::book_in_mut;
 
-// The place and the count of the part that is read, or the refusal.
-#[derive(Clone, Copy)]
-pub enum Located {
-    At(usize, usize),
-    Off(Answer),
-}
-
+#[tactic(auto, using(crate::specs::Laws::Read::ways_out))]
 fn judge(
     b: &[u8],
     area: &[u8],
@@ -26,23 +22,18 @@ fn judge(
     k: u64,
     from: u64,
     count: u64,
-) -> Judged
+) -> Result<usize, Refusal>
     ensures { ReadJudged b.now area.now caller d s k from count result }
 {
-    let t = match begin(b, area, caller) {
-        Begun::By(t) => t,
-        Begun::Not(r) => return Judged::No(r),
-    };
-    if !good_part(k, from, count) {
-        return Judged::No(Refusal::BadArgument);
-    }
-    let Entry::In { object, .. } = open_entry(b, t, d, s) else {
-        return Judged::No(Refusal::NoEntry);
-    };
-    find_part(b, t, object, k, from, count, false)
+    let (book, t) = begin(b, area, caller)?;
+    let part = Part::of(k, from, count)?;
+    let place = open_entry(book, t, d, s)?;
+    let allowed = reading(label_of(book, t), label_of(book, place.object));
+    find_part(book, place.object, part, allowed)
 }
 
-// The call as numbers: where the part lies. The next number moves on.
+// The call as numbers: the place and the count of the part. The next number moves on.
+#[tactic(auto, using(crate::specs::Laws::Leave::leavable, crate::specs::Laws::Prelude::book_long, crate::specs::Laws::Read::located_at))]
 pub fn locate(
     b: &mut [u8],
     area: &[u8],
@@ -52,15 +43,15 @@ pub fn locate(
     k: u64,
     from: u64,
     count: u64,
-) -> Located
+) -> Result<(usize, usize), Refusal>
     ensures { LocatedAs b.old area.now caller d s k from count b.new result }
 {
     let place = match judge(b, area, caller, d, s, k, from, count) {
-        Judged::Go(place, _) => place,
-        Judged::No(r) => return Located::Off(leave(b, r)),
+        Ok(place) => place,
+        Err(r) => return leave(b, r),
     };
-    move_on(b);
-    Located::At(place, count as usize)
+    move_on(book_in_mut(b));
+    Ok((place, count as usize))
 }
 
 pub fn read<'a>(
@@ -78,13 +69,13 @@ pub fn read<'a>(
     ensures { Shown b.old area.entry caller d s k from count answer.new value.new result b.new }
 {
     match locate(b, area, caller, d, s, k, from, count) {
-        Located::At(place, n) => {
+        Ok((place, n)) => {
             *answer = 0;
             *value = 0;
             &area[place..place + n]
         }
-        Located::Off(refused) => {
-            *answer = spread(refused, value);
+        Err(r) => {
+            *answer = spread(Err(r), value);
             &area[..0]
         }
     }

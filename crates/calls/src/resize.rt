@@ -7,50 +7,48 @@ use super::begin::begin;
 use super::conditions::writing;
 use super::leave::leave;
 use super::lookup::open_entry;
-use super::{Answer, Begun, Judged, Refusal, Tested};
+use super::{Answer, Refusal};
 use book::alter::move_on;
-use book::find::{Entry, kind_of, quota_of};
+use book::area::area_in_mut;
+use book::find::{kind_of, quota_of};
 use book::in_place::label_of;
 use book::kinds::SEGMENT;
 use book::units::units;
+use tables::{Row, book_in_mut};
 
 // RULES 8.14: "4 if the length is above 16,256."
 const MAX_LENGTH: u64 = book::limits::MAX_LENGTH as u64;
 
-fn judge(b: &[u8], area: &[u8], caller: u64, d: u64, s: u64, length: u64) -> Judged
+#[tactic(auto, using(crate::specs::Laws::Resize::ways_out))]
+fn judge(b: &[u8], area: &[u8], caller: u64, d: u64, s: u64, length: u64) -> Result<Row, Refusal>
     ensures { ResizeJudged b.now area.now caller d s length result }
 {
-    let t = match begin(b, area, caller) {
-        Begun::By(t) => t,
-        Begun::Not(r) => return Judged::No(r),
-    };
+    let (book, t) = begin(b, area, caller)?;
     if MAX_LENGTH < length {
-        return Judged::No(Refusal::BadArgument);
+        return Err(Refusal::BadArgument);
     }
-    let Entry::In { object, .. } = open_entry(b, t, d, s) else {
-        return Judged::No(Refusal::NoEntry);
-    };
-    if kind_of(b, object) != SEGMENT {
-        return Judged::No(Refusal::WrongKind);
+    let place = open_entry(book, t, d, s)?;
+    let object = place.object;
+    if kind_of(book, object) != SEGMENT {
+        return Err(Refusal::WrongKind);
     }
-    match writing(b, label_of(b, t), b, label_of(b, object)) {
-        Tested::Pass => {}
-        Tested::Fail(r) => return Judged::No(r),
+    writing(label_of(book, t), label_of(book, object))?;
+    if quota_of(book, object) < units(length) {
+        return Err(Refusal::NoSpare);
     }
-    if quota_of(b, object) < units(length) {
-        return Judged::No(Refusal::NoSpare);
-    }
-    Judged::Go(object, 0)
+    Ok(object)
 }
 
+#[tactic(auto, using(crate::specs::Laws::Leave::leavable, crate::specs::Laws::Prelude::book_long, crate::specs::Laws::Prelude::area_long, crate::specs::Laws::Resize::can_resize))]
 pub fn resize(b: &mut [u8], area: &mut [u8], caller: u64, d: u64, s: u64, length: u64) -> Answer
     ensures { Done b.old area.old caller (kernel.resize d s length) result b.new area.new }
 {
     let row = match judge(b, area, caller, d, s, length) {
-        Judged::Go(row, _) => row,
-        Judged::No(r) => return leave(b, r),
+        Ok(row) => row,
+        Err(r) => return leave(b, r),
     };
-    book::resize::resize(b, area, row, length as u16);
-    move_on(b);
-    Answer::Granted(0)
+    let book = book_in_mut(b);
+    book::resize::resize(book, area_in_mut(area), row, length as u16);
+    move_on(book);
+    Ok(0)
 }

@@ -1,6 +1,6 @@
 // Call 3: the caller takes another clearance.
 ghost use Rattle.std.specs.Prelude.{◌≡◌, [], ◌∷◌};
-ghost use Rattle.labels.specs.Core.{held_in};
+ghost use Rattle.labels.specs.Core.{meant};
 ghost use Rattle.rules.specs.Kernel as kernel;
 ghost use Rattle.calls.specs.Conditions.{tested};
 ghost use Rattle.calls.specs.Outcome.{Done};
@@ -8,57 +8,53 @@ ghost use Rattle.calls.specs.SetClearance.{ClearanceJudged};
 
 use super::arguments::good_label;
 use super::begin::begin;
-use super::conditions::{flow, flow_join_high};
+use super::conditions::{ask, ask_two};
 use super::leave::leave;
 use super::relabel::take_labels;
-use super::{Answer, Begun, Judged, Refusal, Tested};
+use super::{Answer, Refusal};
 use book::find::next_of;
 use book::in_place::{clearance_of, label_of};
-use labels::Held;
 use labels::in_place::from_bytes;
+use labels::{LabelRef, Rule};
+use tables::{Row, book_in_mut};
 
 // RULES 8.3: "7 unless T flows to C and C flows to join(T's clearance, high(T))."
-fn allowed(b: &[u8], mine: Held, clearance: &[u8], taken: Held, cleared: Held) -> Tested
-    ensures { result ≡ tested (kernel.flow (held_in b.now mine) (held_in clearance.now taken)
-        ∷ kernel.flow_join_high (held_in clearance.now taken) (held_in b.now cleared) (held_in b.now mine) ∷ []) }
+#[tactic(auto, unfolding(crate::specs::Conditions::tested, rules::specs::Kernel::all_hold, rules::specs::Kernel::flow, rules::specs::Kernel::flow_join_high))]
+fn allowed(mine: LabelRef, taken: LabelRef, cleared: LabelRef) -> Result<(), Refusal>
+    ensures { result ≡ tested (kernel.flow (meant mine.entry) (meant taken.entry)
+        ∷ kernel.flow_join_high (meant taken.entry) (meant cleared.entry) (meant mine.entry) ∷ []) }
 {
-    match flow(b, mine, clearance, taken) {
-        Tested::Pass => {}
-        Tested::Fail(r) => return Tested::Fail(r),
-    }
-    flow_join_high(clearance, taken, b, cleared, b, mine)
+    ask_two(Rule::Flows, mine, taken)?;
+    ask(Rule::FlowsJoinHigh, taken, cleared, mine)
 }
 
-fn judge(b: &[u8], area: &[u8], caller: u64, clearance: &[u8]) -> Judged
+#[tactic(auto, using(crate::specs::Laws::SetClearance::ways_out))]
+fn judge(b: &[u8], area: &[u8], caller: u64, clearance: &[u8]) -> Result<Row, Refusal>
     ensures { ClearanceJudged b.now area.now caller clearance.now result }
 {
-    let t = match begin(b, area, caller) {
-        Begun::By(t) => t,
-        Begun::Not(r) => return Judged::No(r),
-    };
-    if !good_label(clearance, next_of(b), false) {
-        return Judged::No(Refusal::BadArgument);
+    let (book, t) = begin(b, area, caller)?;
+    if !good_label(clearance, next_of(book), false) {
+        return Err(Refusal::BadArgument);
     }
-    let mine = label_of(b, t);
+    let mine = label_of(book, t);
     let taken = from_bytes(clearance);
-    let cleared = clearance_of(b, t);
-    match allowed(b, mine, clearance, taken, cleared) {
-        Tested::Pass => {}
-        Tested::Fail(r) => return Judged::No(r),
-    }
-    Judged::Go(t, 0)
+    let cleared = clearance_of(book, t);
+    allowed(mine, taken, cleared)?;
+    Ok(t)
 }
 
+#[tactic(auto, using(crate::specs::Laws::Leave::leavable, crate::specs::Laws::Prelude::book_long))]
 pub fn set_clearance(b: &mut [u8], area: &mut [u8], caller: u64, clearance: &[u8]) -> Answer
     ensures { Done b.old area.old caller (kernel.set_clearance clearance.now) result b.new area.new }
 {
     let t = match judge(b, area, caller, clearance) {
-        Judged::Go(t, _) => t,
-        Judged::No(r) => return leave(b, r),
+        Ok(t) => t,
+        Err(r) => return leave(b, r),
     };
     // Values, since they are stored.
     let taken = labels::bytes::from_bytes(clearance);
-    let mine = book::find::label_of(b, t);
-    take_labels(b, t, mine, taken);
-    Answer::Granted(0)
+    let book = book_in_mut(b);
+    let mine = book::find::label_of(book, t);
+    take_labels(book, t, mine, taken);
+    Ok(0)
 }

@@ -9,13 +9,13 @@ pub fn spread(answer: Answer, value: &mut u64) -> u64
     ensures { (result ≡ number_of answer) × (value.new ≡ value_in answer) }
 {
     match answer {
-        Answer::Granted(v) => {
+        Ok(v) => {
             *value = v;
             0
         }
-        Answer::Refused(k) => {
+        Err(r) => {
             *value = 0;
-            k
+            u64::from(r)
         }
     }
 }

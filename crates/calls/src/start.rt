@@ -1,28 +1,25 @@
 // Start: the root container and its thread in areas that held anything.
+ghost use Rattle.calls.specs.Outcome.{number_of};
 ghost use Rattle.calls.specs.Started.{Started};
 
-use super::leave::{BAD_AREA, BAD_ARGUMENT};
+use super::Refusal;
+use book::area::area_in_mut;
 use book::sound::AREA_LEN;
-use tables::is_whole;
+use tables::{book_in, book_in_mut};
 
 // The largest first number: two more are taken at once, and a call must still have one.
 pub const LAST_FIRST: u64 = book::limits::LAST_NUMBER - 2;
 
-pub fn start(b: &mut [u8], area: &mut [u8], first: u64) -> u64
-    ensures { Started b.old area.old first result b.new area.new }
+#[tactic(auto, using(crate::specs::Laws::Started::ways_out))]
+pub fn start(b: &mut [u8], area: &mut [u8], first: u64) -> Result<(), Refusal>
+    ensures { Started b.old area.old first (number_of result) b.new area.new }
 {
-    if !is_whole(b) {
-        return BAD_AREA;
+    if book_in(b).is_none() || area.len() != AREA_LEN {
+        return Err(Refusal::BadArea);
     }
-    if area.len() != AREA_LEN {
-        return BAD_AREA;
+    if first < 1 || LAST_FIRST < first {
+        return Err(Refusal::BadArgument);
     }
-    if first < 1 {
-        return BAD_ARGUMENT;
-    }
-    if LAST_FIRST < first {
-        return BAD_ARGUMENT;
-    }
-    book::start::start(b, area, first);
-    0
+    book::start::start(book_in_mut(b), area_in_mut(area), first);
+    Ok(())
 }

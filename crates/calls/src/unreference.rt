@@ -7,40 +7,31 @@ use super::begin::begin;
 use super::conditions::writing;
 use super::leave::leave;
 use super::lookup::open_entry;
-use super::{Answer, Begun, Judged, Refusal, Tested};
+use super::{Answer, Refusal};
+use book::area::area_in_mut;
 use book::cut::cut_entry;
-use book::find::Entry;
 use book::in_place::label_of;
+use tables::book_in_mut;
 
-fn judge(b: &[u8], area: &[u8], caller: u64, d: u64, o: u64) -> Judged
+#[tactic(auto, using(crate::specs::Laws::Unreference::ways_out))]
+fn judge(b: &[u8], area: &[u8], caller: u64, d: u64, o: u64) -> Result<usize, Refusal>
     ensures { CutJudged b.now area.now caller d o result }
 {
-    let t = match begin(b, area, caller) {
-        Begun::By(t) => t,
-        Begun::Not(r) => return Judged::No(r),
-    };
-    let Entry::In {
-        container,
-        link,
-        ..
-    } = open_entry(b, t, d, o)
-    else {
-        return Judged::No(Refusal::NoEntry);
-    };
-    match writing(b, label_of(b, t), b, label_of(b, container)) {
-        Tested::Pass => {}
-        Tested::Fail(r) => return Judged::No(r),
-    }
-    Judged::Go(link, 0)
+    let (book, t) = begin(b, area, caller)?;
+    let place = open_entry(book, t, d, o)?;
+    writing(label_of(book, t), label_of(book, place.container))?;
+    Ok(place.link)
 }
 
+#[tactic(auto, using(crate::specs::Laws::Leave::leavable, crate::specs::Laws::Prelude::book_long, crate::specs::Laws::Prelude::area_long, crate::specs::Laws::Unreference::can_cut))]
 pub fn unreference(b: &mut [u8], area: &mut [u8], caller: u64, d: u64, o: u64) -> Answer
     ensures { Done b.old area.old caller (kernel.unreference d o) result b.new area.new }
 {
-    let link = match judge(b, area, caller, d, o) {
-        Judged::Go(link, _) => link,
-        Judged::No(r) => return leave(b, r),
-    };
-    cut_entry(b, area, link);
-    Answer::Granted(0)
+    match judge(b, area, caller, d, o) {
+        Ok(link) => {
+            cut_entry(book_in_mut(b), area_in_mut(area), link);
+            Ok(0)
+        }
+        Err(r) => leave(b, r),
+    }
 }

@@ -4,14 +4,17 @@ ghost use Rattle.calls.specs.Outcome.{Done};
 ghost use Rattle.calls.specs.Write.{WriteJudged};
 
 use super::begin::begin;
+use super::conditions::writing;
 use super::leave::leave;
 use super::lookup::open_entry;
-use super::part::{find_part, good_part};
-use super::{Answer, Begun, Judged, Refusal};
+use super::part::{Part, find_part};
+use super::{Answer, Refusal};
 use book::alter::move_on;
 use book::area::write_area;
-use book::find::Entry;
+use book::in_place::label_of;
+use tables::book_in_mut;
 
+#[tactic(auto, using(crate::specs::Laws::Write::ways_out))]
 fn judge(
     b: &[u8],
     area: &[u8],
@@ -22,25 +25,20 @@ fn judge(
     from: u64,
     count: u64,
     bytes: &[u8],
-) -> Judged
+) -> Result<usize, Refusal>
     ensures { WriteJudged b.now area.now caller d s k from count bytes.now result }
 {
-    let t = match begin(b, area, caller) {
-        Begun::By(t) => t,
-        Begun::Not(r) => return Judged::No(r),
-    };
-    if !good_part(k, from, count) {
-        return Judged::No(Refusal::BadArgument);
-    }
+    let (book, t) = begin(b, area, caller)?;
+    let part = Part::of(k, from, count)?;
     if bytes.len() as u64 != count {
-        return Judged::No(Refusal::BadArgument);
+        return Err(Refusal::BadArgument);
     }
-    let Entry::In { object, .. } = open_entry(b, t, d, s) else {
-        return Judged::No(Refusal::NoEntry);
-    };
-    find_part(b, t, object, k, from, count, true)
+    let place = open_entry(book, t, d, s)?;
+    let allowed = writing(label_of(book, t), label_of(book, place.object));
+    find_part(book, place.object, part, allowed)
 }
 
+#[tactic(auto, using(crate::specs::Laws::Leave::leavable, crate::specs::Laws::Prelude::book_long, crate::specs::Laws::Write::can_write))]
 pub fn write(
     b: &mut [u8],
     area: &mut [u8],
@@ -55,10 +53,10 @@ pub fn write(
     ensures { Done b.old area.old caller (kernel.write d s k from count bytes.now) result b.new area.new }
 {
     let place = match judge(b, area, caller, d, s, k, from, count, bytes) {
-        Judged::Go(place, _) => place,
-        Judged::No(r) => return leave(b, r),
+        Ok(place) => place,
+        Err(r) => return leave(b, r),
     };
     write_area(area, place, bytes);
-    move_on(b);
-    Answer::Granted(0)
+    move_on(book_in_mut(b));
+    Ok(0)
 }

@@ -1,29 +1,20 @@
 -- Calls 12, 13 and 14: the rules' tests 5 to 7, by the rows of the entry, and what is known of the segment.
-use Rattle.std.specs.Prelude.{ℕ, ◌<◌, Bool, true, false, ◌≡◌, List, eqb, length}
+use Rattle.std.specs.Prelude.{ℕ, ◌<◌, Bool, ◌≡◌, List, eqb, length, Ok, Err, Some}
 use Rattle.std.proofs.Math.Path.{refl}
 use Rattle.std.proofs.Common.{ap, ◌∙◌}
-use Rattle.labels.specs.declared.Label.{Label}
-use Rattle.rules.specs.Kernel.{segment_code, Obj, Verdict, refuse, must, must_hold, entry, is_segment, reading, writing, access}
+use Rattle.rules.specs.Kernel.{segment_code, Obj, Verdict, must, must_hold, entry, is_segment, access}
 use Rattle.tables.specs.Layout.{view, row_count}
-use Rattle.book.specs.declared.Found.TheVariants.{At}
-use Rattle.book.specs.declared.find.Entry.TheVariants as place
 use Rattle.book.specs.Book.{code_of, quota_of, len_of, label_of, bytes_of, row_of, world_of}
 use Rattle.book.specs.Laws.Tie.{row_is, obj_found, object_quota, object_bytes, bytes_length}
-use Rattle.calls.specs.Conditions.{tested}
 use Rattle.calls.specs.Access.{asked, access_on}
+use Rattle.calls.specs.declared.Refusal.{Refusal}
+use Rattle.book.specs.declared.find.Entry.{Entry}
+use Rattle.calls.specs.Outcome.{Told}
 use Rattle.calls.specs.Begun.{Caller}
 use Rattle.calls.specs.Lookup.{open_entry}
 use Rattle.calls.specs.Laws.Begun.{caller_label}
-use Rattle.calls.specs.Laws.Entry.{no_entry, is_entry, is_segment_lem, its_label}
-use Rattle.calls.specs.Laws.Prelude.{must_passed, must_failed}
-
--- ---- the label condition
-
-pub asked_writing : (writes : Bool) (m l : Label) → writes ≡ true → tested (asked writes m l) ≡ tested (writing m l)
-asked_writing writes m l e = ap (λ (w : Bool). tested (asked w m l)) e
-
-pub asked_reading : (writes : Bool) (m l : Label) → writes ≡ false → tested (asked writes m l) ≡ tested (reading m l)
-asked_reading writes m l e = ap (λ (w : Bool). tested (asked w m l)) e
+use Rattle.calls.specs.Laws.Entry.{no_entry_told, is_entry, is_segment_lem, its_label}
+use Rattle.calls.specs.Laws.Prelude.{must_passed}
 
 -- ---- the tests
 
@@ -36,24 +27,24 @@ module _ (b area : List ℕ) (c t d s : ℕ) (by : Caller b area c t) (writes : 
   tests = refl
 
   -- no entry: 5
-  pub access_five : open_entry (view b) t d s ≡ place.Nothing → access_on b area c d s writes rest ≡ refuse 5
-  access_five e = tests ∙ must_failed _ 5 _ (no_entry b area c t d s by e)
+  pub access_five : (v : Verdict) → v ≡ access_on b area c d s writes rest → (f : Refusal) → open_entry (view b) t d s ≡ Err f → Told b area v f
+  access_five v e = no_entry_told b area c t d s by v _ (e ∙ tests)
 
   -- one that is found: the tests 6 and 7, of the rows
-  pub access_at : (k r l : ℕ) → open_entry (view b) t d s ≡ place.In k r l
+  pub access_at : (p : Entry) → open_entry (view b) t d s ≡ Ok p
       → access_on b area c d s writes rest
-      ≡ must (eqb (code_of (view b) r) segment_code) 6 (must_hold (asked writes (label_of (view b) t) (label_of (view b) r)) rest)
-  access_at k r l e =
+      ≡ must (eqb (code_of (view b) p.object) segment_code) 6 (must_hold (asked writes (label_of (view b) t) (label_of (view b) p.object)) rest)
+  access_at p e =
       tests
-      ∙ must_passed _ 5 _ (is_entry b area c t d s by k r l e)
-      ∙ (λ i. must (is_segment_lem b area c t d s by k r l e i) 6 (must_hold (asked writes (caller_label b area c t by i) (its_label b area c t d s by k r l e i)) rest))
+      ∙ must_passed _ 5 _ (is_entry b area c t d s by p e)
+      ∙ (λ i. must (is_segment_lem b area c t d s by p e i) 6 (must_hold (asked writes (caller_label b area c t by i) (its_label b area c t d s by p e i)) rest))
 
 -- ---- the segment that was found
 
-pub open_low : (b : List ℕ) (s r : ℕ) → row_of (view b) s ≡ At r → r < row_count
+pub open_low : (b : List ℕ) (s r : ℕ) → row_of (view b) s ≡ Some r → r < row_count
 open_low b s r e = (row_is (view b) s r e).0.low
 
-module _ (b area : List ℕ) (s r : ℕ) (row : row_of (view b) s ≡ At r) where
+module _ (b area : List ℕ) (s r : ℕ) (row : row_of (view b) s ≡ Some r) where
   pub segment_quota : ((world_of (view b) area).obj s).quota ≡ quota_of (view b) r
   segment_quota = ap (λ (x : Obj). x.quota) (obj_found (view b) area s r row) ∙ object_quota (view b) area r
 

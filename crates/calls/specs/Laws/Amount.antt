@@ -1,41 +1,36 @@
 -- A signed number of units, by cases on the integer.
-use Rattle.std.specs.Prelude.{ℕ, suc, ◌+◌, ◌-◌, ◌<◌, ◌≤◌, Bool, not, ◌||◌, ◌≡◌, [], ◌∷◌, ◌++◌, T, ℤ, pos, negsuc, ◌-ℤ◌, nat_abs}
-use Rattle.std.proofs.Common.{arith, sym, ap, subst, ◌∙◌, SFits, Fits}
+use Rattle.std.specs.Prelude.{ℕ, suc, ◌+◌, ◌-◌, ◌<◌, ◌≤◌, Bool, not, ◌||◌, ◌≡◌, [], ◌∷◌, ◌++◌, T, ℤ, pos, negsuc, ◌-ℤ◌, nat_abs, Ok, Err}
+use Rattle.std.proofs.Common.{arith, sym, ap, subst, SFits, Fits}
 use Rattle.std.proofs.Math.Bool.{true, false, cond}
-use Rattle.std.proofs.lemmas.Bool.{false≢true}
 use Rattle.std.proofs.Math.Path.{refl}
 use Rattle.std.proofs.Math.Dec.{leb, ltb}
 use Rattle.std.specs.Int.Signed.{lt_z, non_neg}
 use Rattle.std.specs.Int.{w64}
 use borrow.Author.Tests.{ltb-true, ltb-false, lt-ltb, le-ltb, lt-leb, le-leb}
-use Rattle.labels.specs.declared.Label.{Label}
-use Rattle.rules.specs.Kernel.{Obj, World, Verdict, grant, must, must_hold, judge, move, entry, is_segment, is_container, reading, writing, flow, move_quota, alter, requota}
+use Rattle.rules.specs.Kernel.{Obj, World, Verdict, grant, must, must_hold, judge, move, entry, is_segment, is_container, writing, flow, move_quota, alter, requota}
 use Rattle.rules.specs.Kernel.{good_arguments, max_move, root_quota}
-use Rattle.tables.specs.Layout.{View}
-use Rattle.book.specs.Units.{spare_at}
 use Rattle.calls.specs.declared.amount.Amount.{Amount}
-use Rattle.calls.specs.declared.amount.Amount.TheVariants.{In, Out, Bad}
-use Rattle.calls.specs.declared.Tested.{Tested}
-use Rattle.calls.specs.declared.Tested.TheVariants.{Pass}
-use Rattle.calls.specs.Conditions.{tested}
-use Rattle.calls.specs.Amount.{amount_of, over_limit, more_for, room_for, room_at, quota_for, Reckoned}
-use Rattle.calls.specs.Laws.Conditions.{none_asked}
+use Rattle.calls.specs.declared.amount.Amount.TheVariants.{In, Out}
+use Rattle.calls.specs.declared.Refusal.{Refusal}
+use Rattle.calls.specs.declared.Refusal.TheVariants.{BadArgument}
+use Rattle.calls.specs.Amount.{amount_of, more_for, room_for, quota_for, Reckoned}
+use Rattle.calls.specs.Laws.Ways.{same_value, same_reason, not_both}
 
 -- ---- as the code turns it
 
 -- below the limit
-pub too_low : (z : ℤ) → lt_z z (negsuc (max_move - 1)) ≡ true → Bad ≡ amount_of z
+pub too_low : (z : ℤ) → lt_z z (negsuc (max_move - 1)) ≡ true → Err BadArgument ≡ amount_of z
 unfolding amount_of
 too_low (pos k) h = cc
 too_low (negsuc k) h = rw (le-ltb k max_move (omega (arith, ltb-true (max_move - 1) k h)))
 
 -- above it
-pub too_high : (z : ℤ) → lt_z (pos max_move) z ≡ true → Bad ≡ amount_of z
+pub too_high : (z : ℤ) → lt_z (pos max_move) z ≡ true → Err BadArgument ≡ amount_of z
 unfolding amount_of
 too_high (pos k) h = rw h
 too_high (negsuc k) h = cc
 
-pub within : (z : ℤ) → lt_z z (pos 0) ≡ false → lt_z (pos max_move) z ≡ false → In (nat_abs z) ≡ amount_of z
+pub within : (z : ℤ) → lt_z z (pos 0) ≡ false → lt_z (pos max_move) z ≡ false → Ok (In (nat_abs z)) ≡ amount_of z
 unfolding amount_of
 within (pos k) h g = rw g
 within (negsuc k) h g = cc
@@ -52,32 +47,12 @@ pub minus_nonneg : (z : ℤ) → lt_z z (pos 0) ≡ true → lt_z z (negsuc (max
 minus_nonneg (pos k) h g = let z : k < 0 = ltb-true k 0 h in absurd (omega arith)
 minus_nonneg (negsuc k) h g = (tt, record { fits = omega (arith, ltb-false (max_move - 1) k g) })
 
-pub without : (z : ℤ) → lt_z z (pos 0) ≡ true → lt_z z (negsuc (max_move - 1)) ≡ false → Out (nat_abs (pos 0 -ℤ z)) ≡ amount_of z
+pub without : (z : ℤ) → lt_z z (pos 0) ≡ true → lt_z z (negsuc (max_move - 1)) ≡ false → Ok (Out (nat_abs (pos 0 -ℤ z))) ≡ amount_of z
 unfolding amount_of
 without (pos k) h g = let z : k < 0 = ltb-true k 0 h in absurd (omega arith)
-without (negsuc k) h g = rw (lt-ltb k max_move (omega (arith, ltb-false (max_move - 1) k g))) (ap Out (omega arith))
+without (negsuc k) h g = rw (lt-ltb k max_move (omega (arith, ltb-false (max_move - 1) k g))) (ap (λ (m : ℕ). Ok (Out m)) (omega arith))
 
 -- ---- as the code goes by it
-
-module _ (u : Amount) (t o : Label) where
-  pub more_in : (m : ℕ) → u ≡ In m → Pass ≡ tested (more_for u t o)
-  more_in m e = none_asked ∙ sym (ap (λ a. tested (more_for a t o)) e)
-
-  pub more_out : (m : ℕ) (r : Tested) → u ≡ Out m → r ≡ tested (reading t o) → r ≡ tested (more_for u t o)
-  more_out m r e f = f ∙ sym (ap (λ a. tested (more_for a t o)) e)
-
-  pub more_bad : u ≡ Bad → Pass ≡ tested (more_for u t o)
-  more_bad e = none_asked ∙ sym (ap (λ a. tested (more_for a t o)) e)
-
-module _ (u : Amount) (v : View) (k r : ℕ) where
-  pub room_in : (m s : ℕ) → u ≡ In m → s ≡ spare_at v k → leb m s ≡ room_at u v k r
-  room_in m s e f = ap (leb m) f ∙ sym (ap (λ a. room_at a v k r) e)
-
-  pub room_out : (m s : ℕ) → u ≡ Out m → s ≡ spare_at v r → leb m s ≡ room_at u v k r
-  room_out m s e f = ap (leb m) f ∙ sym (ap (λ a. room_at a v k r) e)
-
-  pub room_bad : u ≡ Bad → false ≡ room_at u v k r
-  room_bad e = sym (ap (λ a. room_at a v k r) e)
 
 module _ (u : Amount) (q : ℕ) where
   pub quota_in : (m : ℕ) → u ≡ In m → q + m ≡ quota_for u q
@@ -85,9 +60,6 @@ module _ (u : Amount) (q : ℕ) where
 
   pub quota_out : (m : ℕ) → u ≡ Out m → q - m ≡ quota_for u q
   quota_out m e = sym (ap (λ a. quota_for a q) e)
-
-  pub quota_bad : u ≡ Bad → q ≡ quota_for u q
-  quota_bad e = sym (ap (λ a. quota_for a q) e)
 
   pub in_most : (m : ℕ) → u ≡ In m → Reckoned u q → m ≤ root_quota
   in_most m e h = subst (λ a. Reckoned a q) e h
@@ -97,39 +69,33 @@ module _ (u : Amount) (q : ℕ) where
 
 -- ---- as the rules judge it
 
-no_limit : (u : Amount) → u ≡ Bad → over_limit u ≡ false → {A : Type 0} → A
-no_limit u e f = absurd (false≢true (sym f ∙ ap over_limit e))
-
-no_over : (u : Amount) (v : Amount) → over_limit v ≡ false → u ≡ v → over_limit u ≡ true → {A : Type 0} → A
-no_over u v g e f = absurd (false≢true (sym g ∙ (sym (ap over_limit e) ∙ f)))
-
 module _ (n d o : ℕ) where
   -- over its limit: an argument is malformed
-  pub bad_argument : (z : ℤ) (u : Amount) → u ≡ amount_of z → over_limit u ≡ true → good_arguments n (move_quota d o z) ≡ false
+  pub bad_argument : (z : ℤ) (f : Refusal) → amount_of z ≡ Err f → (good_arguments n (move_quota d o z) ≡ false) × (f ≡ BadArgument)
   unfolding amount_of good_arguments
-  bad_argument (pos k) u e f = go (ltb max_move k) refl e
+  bad_argument (pos k) f e = go (ltb max_move k) refl e
     where
-      go : (a : Bool) → ltb max_move k ≡ a → u ≡ cond a Bad (In k) → leb k max_move ≡ false
-      go true g e = lt-leb k max_move (ltb-true max_move k g)
-      go false g e = no_over u (In k) refl e f
-  bad_argument (negsuc k) u e f = go (ltb k max_move) refl e
+      go : (a : Bool) → ltb max_move k ≡ a → cond a (Err BadArgument) (Ok (In k)) ≡ Err f → (leb k max_move ≡ false) × (f ≡ BadArgument)
+      go true g e = (lt-leb k max_move (ltb-true max_move k g), same_reason f BadArgument (sym e))
+      go false g e = absurd (not_both (In k) f e)
+  bad_argument (negsuc k) f e = go (ltb k max_move) refl e
     where
-      go : (a : Bool) → ltb k max_move ≡ a → u ≡ cond a (Out (suc k)) Bad → leb (suc k) max_move ≡ false
-      go true g e = no_over u (Out (suc k)) refl e f
-      go false g e = lt-leb (suc k) max_move (omega (arith, ltb-false k max_move g))
+      go : (a : Bool) → ltb k max_move ≡ a → cond a (Ok (Out (suc k))) (Err BadArgument) ≡ Err f → (leb (suc k) max_move ≡ false) × (f ≡ BadArgument)
+      go true g e = absurd (not_both (Out (suc k)) f e)
+      go false g e = (lt-leb (suc k) max_move (omega (arith, ltb-false k max_move g)), same_reason f BadArgument (sym e))
 
-  pub good_argument : (z : ℤ) (u : Amount) → u ≡ amount_of z → over_limit u ≡ false → good_arguments n (move_quota d o z) ≡ true
+  pub good_argument : (z : ℤ) (u : Amount) → amount_of z ≡ Ok u → good_arguments n (move_quota d o z) ≡ true
   unfolding amount_of good_arguments
-  good_argument (pos k) u e f = go (ltb max_move k) refl e
+  good_argument (pos k) u e = go (ltb max_move k) refl e
     where
-      go : (a : Bool) → ltb max_move k ≡ a → u ≡ cond a Bad (In k) → leb k max_move ≡ true
-      go true g e = no_limit u e f
+      go : (a : Bool) → ltb max_move k ≡ a → cond a (Err BadArgument) (Ok (In k)) ≡ Ok u → leb k max_move ≡ true
+      go true g e = absurd (not_both u BadArgument (sym e))
       go false g e = le-leb k max_move (omega (arith, ltb-false max_move k g))
-  good_argument (negsuc k) u e f = go (ltb k max_move) refl e
+  good_argument (negsuc k) u e = go (ltb k max_move) refl e
     where
-      go : (a : Bool) → ltb k max_move ≡ a → u ≡ cond a (Out (suc k)) Bad → leb (suc k) max_move ≡ true
+      go : (a : Bool) → ltb k max_move ≡ a → cond a (Ok (Out (suc k))) (Err BadArgument) ≡ Ok u → leb (suc k) max_move ≡ true
       go true g e = le-leb (suc k) max_move (omega (arith, ltb-true k max_move g))
-      go false g e = no_limit u e f
+      go false g e = absurd (not_both u BadArgument (sym e))
 
 -- the tests from 5 on, of an amount
 abbrev pub moving : World → Obj → ℕ → ℕ → Amount → Verdict
@@ -141,22 +107,16 @@ moving w t d o u =
     (must (room_for u w d o) 13
     (grant 0 [] (alter o (requota (quota_for u (w.obj o).quota))))))))
 
-pub amount_judged : (w : World) (t : Obj) (c d o : ℕ) (z : ℤ) (u : Amount) → u ≡ amount_of z → over_limit u ≡ false
+pub amount_judged : (w : World) (t : Obj) (c d o : ℕ) (z : ℤ) (u : Amount) → amount_of z ≡ Ok u
     → judge w t c (move_quota d o z) ≡ moving w t d o u
 unfolding amount_of judge move
-amount_judged w t c d o (pos k) u e f = go (ltb max_move k) refl e
+amount_judged w t c d o (pos k) u e = go (ltb max_move k) e
   where
-    go : (a : Bool) → ltb max_move k ≡ a → u ≡ cond a Bad (In k) → judge w t c (move_quota d o (pos k)) ≡ moving w t d o u
-    go true g e = no_limit u e f
-    go false g e = ap (moving w t d o) (sym e)
-amount_judged w t c d o (negsuc k) u e f = go (ltb k max_move) refl e
+    go : (a : Bool) → cond a (Err BadArgument) (Ok (In k)) ≡ Ok u → judge w t c (move_quota d o (pos k)) ≡ moving w t d o u
+    go true e = absurd (not_both u BadArgument (sym e))
+    go false e = ap (moving w t d o) (same_value (In k) u e)
+amount_judged w t c d o (negsuc k) u e = go (ltb k max_move) e
   where
-    go : (a : Bool) → ltb k max_move ≡ a → u ≡ cond a (Out (suc k)) Bad → judge w t c (move_quota d o (negsuc k)) ≡ moving w t d o u
-    go true g e = ap (moving w t d o) (sym e)
-    go false g e = no_limit u e f
-
--- a quota that can be reckoned is small
-pub quota_small : (u : Amount) (q : ℕ) → q ≤ root_quota → Reckoned u q → quota_for u q < 65536
-quota_small (In m) q a h = omega arith
-quota_small (Out m) q a h = omega arith
-quota_small Bad q a h = omega arith
+    go : (a : Bool) → cond a (Ok (Out (suc k))) (Err BadArgument) ≡ Ok u → judge w t c (move_quota d o (negsuc k)) ≡ moving w t d o u
+    go true e = ap (moving w t d o) (same_value (Out (suc k)) u e)
+    go false e = absurd (not_both u BadArgument (sym e))

@@ -1,6 +1,7 @@
 -- Call 4: the verdict at each way out, and what the making leaves.
-use Rattle.std.specs.Prelude.{ℕ, ◌<◌, ◌≤◌, true, ◌&&◌, ◌≡◌, List, [], ◌∷◌, length, replicate}
+use Rattle.std.specs.Prelude.{ℕ, ◌<◌, ◌≤◌, true, ◌&&◌, ◌≡◌, List, [], ◌∷◌, length, replicate, ⊤, Result, Ok, Err, Some}
 use Rattle.std.proofs.Common.{arith, ap, ◌∙◌, leb-true}
+use Rattle.std.specs.Result.{IsErr, IsErrAnd}
 use Rattle.std.proofs.Math.Bool.{false}
 use Rattle.std.proofs.Math.Path.{refl, sym, ap₂, subst}
 use Rattle.std.specs.Int.Bits.{bit_or}
@@ -14,71 +15,74 @@ use Rattle.labels.specs.Core.Formed.{and_l, and_r}
 use Rattle.rules.specs.Kernel.{container_code, mask_width, kind_code, flow, judge, good_arguments, good_label}
 use Rattle.rules.specs.Kernel.{good_text, max_mask, max_quota, text_size, or_default, container_default, container_of, create_container}
 use Rattle.tables.specs.Layout.{view}
-use Rattle.book.specs.declared.Found.TheVariants.{At, Nothing}
 use Rattle.book.specs.declared.make.NewRow.{NewRow}
 use Rattle.book.specs.Book.{next_of, label_of, clearance_of, mask_of, world_of}
 use Rattle.book.specs.Find.{container_row}
-use Rattle.book.specs.Make.{object_of, Handed}
+use Rattle.book.specs.Make.{object_of, Handed, Creating, created_in}
 use Rattle.book.specs.Laws.Find.{kind_row}
 use Rattle.book.specs.Laws.Handed.{container_handed, row_is_container}
-use Rattle.calls.specs.declared.Refusal.TheVariants.{BadArgument, NoEntry}
-use Rattle.calls.specs.declared.Judged.{Judged}
-use Rattle.calls.specs.declared.Judged.TheVariants.{No}
-use Rattle.calls.specs.declared.Tested.{Tested}
+use Rattle.calls.specs.declared.Refusal.{Refusal}
+use Rattle.calls.specs.declared.Refusal.TheVariants.{BadArgument}
 use Rattle.calls.specs.Conditions.{tested}
-use Rattle.calls.specs.Outcome.{Ready}
+use Rattle.calls.specs.Outcome.{verdict_on, Told, Ready, Done}
 use Rattle.calls.specs.Begun.{Caller}
 use Rattle.calls.specs.Lookup.{open_container}
-use Rattle.calls.specs.Creating.{plain_conditions, admitted}
+use Rattle.calls.specs.Creating.{plain_conditions, admitted, ToMake}
 use Rattle.calls.specs.CreateContainer.{new_container, container_row_of, ContainerJudged}
-use Rattle.calls.specs.Laws.Arguments.{good_long, good_default, good_text_long}
+use Rattle.calls.specs.Laws.Arguments.{good_long, good_default, good_text_long, first_long}
 use Rattle.calls.specs.Laws.Begun.{caller_four, caller_label, caller_clearance}
-use Rattle.calls.specs.Laws.Leave.{told}
-use Rattle.calls.specs.Laws.Creating.{create_five, create_judged, default_most}
+use Rattle.calls.specs.Laws.Leave.{told, told_on}
+use Rattle.calls.specs.Laws.Creating.{create_five, create_judged, default_most, creating, made_done}
 use Rattle.calls.specs.Laws.Lookup.{mask_at}
 use Rattle.calls.specs.Laws.Prelude.{book_sound}
 
-module _ (b area l s : List ℕ) (c t d m q : ℕ) (by : Caller b area c t) where
+module _ (w b area l s : List ℕ) (c t d m q : ℕ) (same : w ≡ b) (by : Caller w area c t) where
   -- bad arguments: 4
-  pub container_four : (n : ℕ) → n ≡ next_of (view b) → (good_label n false l && (good_text s && (leb m max_mask && leb q max_quota))) ≡ false
-      → ContainerJudged b area c d l s m q (No BadArgument)
+  pub container_four : (good_label (next_of (view w)) false l && (good_text s && (leb m max_mask && leb q max_quota))) ≡ false
+      → Told b area (verdict_on b area c (create_container d l s m q)) BadArgument
   unfolding good_arguments
-  container_four n e bad =
-      told (caller_four b area c t by (create_container d l s m q) (subst (λ (k : ℕ). good_arguments k (create_container d l s m q) ≡ false) e bad)) by.ready
+  container_four bad =
+      subst (λ (z : List ℕ). Told z area (verdict_on z area c (create_container d l s m q)) BadArgument) same
+      (told (caller_four w area c t by (create_container d l s m q) bad) by.ready)
 
-  module _ (n : ℕ) (g : n ≡ next_of (view b)) (good : (good_label n false l && (good_text s && (leb m max_mask && leb q max_quota))) ≡ true) where
-    arguments : good_arguments (next_of (view b)) (create_container d l s m q) ≡ true
+  module _ (good : (good_label (next_of (view w)) false l && (good_text s && (leb m max_mask && leb q max_quota))) ≡ true) where
+    arguments : good_arguments (next_of (view w)) (create_container d l s m q) ≡ true
     unfolding good_arguments
-    arguments = subst (λ (k : ℕ). good_arguments k (create_container d l s m q) ≡ true) g good
+    arguments = good
 
     -- no container that is open: 5
-    pub container_five : open_container (view b) t d ≡ Nothing → ContainerJudged b area c d l s m q (No NoEntry)
+    pub container_five : (f : Refusal) → open_container (view w) t d ≡ Err f → (r : Result ℕ Refusal) → IsErr r × IsErrAnd r (λ y. y ≡ f) → ContainerJudged b area c d l s m q r
     unfolding judge
-    container_five =
-        create_five b area c t by (create_container d l s m q) d (new_container (world_of (view b) area) d l s m q)
-        (flow (core.label_of l) ((world_of (view b) area).obj c).clearance ∷ []) arguments refl
+    container_five f shut r on =
+        subst (λ (z : List ℕ). ContainerJudged z area c d l s m q r) same
+        (told_on _ r on (create_five w area c t by (create_container d l s m q) d (new_container (world_of (view w) area) d l s m q)
+        (flow (core.label_of l) ((world_of (view w) area).obj c).clearance ∷ []) arguments refl f shut))
 
     -- one that is, at row `at`: what is shared decides
-    pub container_judged : (at : ℕ) → open_container (view b) t d ≡ At at
-        → (allowed : Tested) → allowed ≡ tested (plain_conditions (label_of (view b) t) (clearance_of (view b) t) (core.label_of l))
-        → (units : ℕ) → units ≡ or_default q container_default → (r : Judged) → r ≡ admitted (view b) t at container_code units allowed → ContainerJudged b area c d l s m q r
+    pub container_judged : (at : ℕ) → open_container (view w) t d ≡ Ok at
+        → (allowed : Result ⊤ Refusal) → allowed ≡ tested (plain_conditions (label_of (view w) t) (clearance_of (view w) t) (core.label_of l))
+        → (units : ℕ) → units ≡ or_default q container_default → (r : Result ℕ Refusal) → r ≡ admitted (view w) t at container_code units allowed → ContainerJudged b area c d l s m q r
     unfolding judge container_of kind_code
     container_judged at o allowed e units f r h =
-        create_judged b area c t by (create_container d l s m q) d (new_container (world_of (view b) area) d l s m q)
-        (flow (core.label_of l) ((world_of (view b) area).obj c).clearance ∷ []) arguments refl at o container_code units allowed
+        subst (λ (z : List ℕ). ContainerJudged z area c d l s m q r) same
+        (create_judged w area c t by (create_container d l s m q) d (new_container (world_of (view w) area) d l s m q)
+        (flow (core.label_of l) ((world_of (view w) area).obj c).clearance ∷ []) arguments refl at o container_code units allowed
         (record {
           of_kind_lem = refl;
           units = sym f;
-          conditions = ap₂ (λ (u k : Label). tested (plain_conditions u k (core.label_of l))) (caller_label b area c t by) (caller_clearance b area c t by) ∙ sym e;
+          conditions = ap₂ (λ (u k : Label). tested (plain_conditions u k (core.label_of l))) (caller_label w area c t by) (caller_clearance w area c t by) ∙ sym e;
         })
-        r h
+        r h)
+
+-- what its judging needs at each way out
+pub ruleset ways_out = (container_four, container_five, container_judged, first_long)
 
 -- masks joined are a mask
 pub masks_joined : (m n : ℕ) → m ≤ max_mask → n ≤ max_mask → bit_or m n < 256
 masks_joined m n e f = let h = or_lt mask_width m n (omega arith) (omega arith) in omega arith
 
 -- the container's own mask
-pub outer_most : (b area : List ℕ) (d i n : ℕ) → Ready b area → container_row (view b) d ≡ At i → n ≡ mask_of (view b) i → n ≤ max_mask
+pub outer_most : (b area : List ℕ) (d i n : ℕ) → Ready b area → container_row (view b) d ≡ Some i → n ≡ mask_of (view b) i → n ≤ max_mask
 outer_most b area d i n ready e f =
     let (a, j, k) = kind_row container_code (view b) d i e in
     let h = ((book_sound b area ready.areas).ranges i a).mask_most k in
@@ -108,23 +112,35 @@ module _ (n : ℕ) (l s : List ℕ) (d m q : ℕ) (good : good_arguments n (crea
       let h = default_most q container_default max_quota (leb-true q max_quota (and_r (leb m max_mask) (leb q max_quota) numbers_good)) (omega arith) in
       omega arith
 
-  module _ (b area : List ℕ) (i : ℕ) (at : container_row (view b) d ≡ At i) (row : NewRow) (label : Label) (joined outer units : ℕ)
-      (e : row ≡ container_row_of label joined units) (f : label ≡ core.label_of l) (g : joined ≡ bit_or m outer) (o : outer ≡ mask_of (view b) i)
-      (h : units ≡ or_default q container_default) where
+  module _ (w b area : List ℕ) (c i : ℕ) (same : w ≡ b) (ready : Ready b area) (go : ToMake b area c (create_container d l s m q) d (new_container (world_of (view b) area) d l s m q) i)
+      (row : NewRow) (label : Label) (joined outer units : ℕ) (e : row ≡ container_row_of label joined units) (f : label ≡ core.label_of l)
+      (g : joined ≡ bit_or m outer) (o : outer ≡ mask_of (view w) i) (h : units ≡ or_default q container_default) where
     row_is : row ≡ container_row_of (core.label_of l) (bit_or m (mask_of (view b) i)) (or_default q container_default)
     row_is =
-        e ∙ ap₂ (λ (z : Label) (y : ℕ). container_row_of z y units) f (g ∙ ap (bit_or m) o)
+        e ∙ ap₂ (λ (z : Label) (y : ℕ). container_row_of z y units) f (g ∙ ap (bit_or m) (o ∙ ap (λ (z : List ℕ). mask_of (view z) i) same))
         ∙ ap (container_row_of (core.label_of l) (bit_or m (mask_of (view b) i))) h
 
     -- what is handed over is the container
-    pub container_whole : Handed row s (replicate text_size 0)
+    container_whole : Handed row s (replicate text_size 0)
     container_whole =
         subst (λ (z : NewRow). Handed z s (replicate text_size 0)) (sym row_is)
         (container_handed (core.label_of l) s (good_default n false l label_good) (label_of_length l)
         (good_text_long s (and_l (good_text s) (leb m max_mask && leb q max_quota) rest_good)) (bit_or m (mask_of (view b) i)) (or_default q container_default))
 
-    pub container_object : object_of row s (replicate text_size 0) ≡ new_container (world_of (view b) area) d l s m q
-    container_object =
+    made_object : object_of row s (replicate text_size 0) ≡ new_container (world_of (view b) area) d l s m q
+    made_object =
         ap (λ (z : NewRow). object_of z s (replicate text_size 0)) row_is
         ∙ row_is_container (core.label_of l) (bit_or m (mask_of (view b) i)) (or_default q container_default) s (replicate text_size 0)
-        ∙ ap (λ (z : ℕ). container_of (core.label_of l) s (bit_or m z) (or_default q container_default)) (sym (mask_at b area d i at))
+        ∙ ap (λ (z : ℕ). container_of (core.label_of l) s (bit_or m z) (or_default q container_default)) (sym (mask_at b area d i go.container))
+
+    -- so it can be made, and the call is done by it
+    pub container_creating : Creating w i row s (replicate text_size 0)
+    container_creating = creating w b area c (create_container d l s m q) d (new_container (world_of (view b) area) d l s m q) i same ready go row s (replicate text_size 0) container_whole
+
+    pub container_done : (b' : List ℕ) → length b' ≡ length b → view b' ≡ created_in i (object_of row s (replicate text_size 0)) (view w) → (v : ℕ) → v ≡ next_of (view w)
+        → Done b area c (create_container d l s m q) (Ok v) b' area
+    container_done b' long made =
+        made_done w b area c (create_container d l s m q) d (new_container (world_of (view b) area) d l s m q) i same ready go b' long (object_of row s (replicate text_size 0)) made made_object
+
+-- what is asked of the arguments where it is made
+pub ruleset arguments_fit = (container_label_long, container_mask_most, container_quota_low, outer_most)

@@ -1,5 +1,6 @@
 -- Call 6: the verdict at each way out, and what the making leaves.
-use Rattle.std.specs.Prelude.{ℕ, ◌&&◌, ◌≡◌, List, [], ◌∷◌, length}
+use Rattle.std.specs.Prelude.{ℕ, ◌&&◌, ◌≡◌, List, [], ◌∷◌, length, ⊤, Result, Ok, Err}
+use Rattle.std.specs.Result.{IsErr, IsErrAnd}
 use Rattle.std.proofs.Math.Bool.{true, false}
 use Rattle.std.proofs.Math.Path.{refl, sym, ap₂, subst}
 use Rattle.std.proofs.Common.{ap, ◌∙◌}
@@ -10,59 +11,63 @@ use Rattle.labels.specs.Core.Bytes.{label_of_length}
 use Rattle.labels.specs.Core.Formed.{and_l, and_r}
 use Rattle.rules.specs.Kernel.{gate_code, kind_code, flow, judge, good_arguments, good_label, good_text, gate_of, create_gate}
 use Rattle.tables.specs.Layout.{view}
-use Rattle.book.specs.declared.Found.TheVariants.{At, Nothing}
 use Rattle.book.specs.declared.make.NewRow.{NewRow}
 use Rattle.book.specs.Book.{next_of, label_of, clearance_of, world_of}
-use Rattle.book.specs.Make.{object_of, Handed}
+use Rattle.book.specs.Make.{object_of, Handed, Creating, created_in}
 use Rattle.book.specs.Laws.Handed.{gate_handed, row_is_gate}
-use Rattle.calls.specs.declared.Refusal.TheVariants.{BadArgument, NoEntry}
-use Rattle.calls.specs.declared.Judged.{Judged}
-use Rattle.calls.specs.declared.Judged.TheVariants.{No}
-use Rattle.calls.specs.declared.Tested.{Tested}
+use Rattle.calls.specs.declared.Refusal.{Refusal}
+use Rattle.calls.specs.declared.Refusal.TheVariants.{BadArgument}
 use Rattle.calls.specs.Conditions.{tested}
+use Rattle.calls.specs.Outcome.{verdict_on, Told, Ready, Done}
 use Rattle.calls.specs.Begun.{Caller}
 use Rattle.calls.specs.Lookup.{open_container}
-use Rattle.calls.specs.Creating.{cleared_conditions, admitted}
+use Rattle.calls.specs.Creating.{cleared_conditions, admitted, ToMake}
 use Rattle.calls.specs.CreateGate.{new_gate, gate_row_of, GateJudged}
 use Rattle.calls.specs.Laws.Arguments.{good_long, good_default, good_text_long}
 use Rattle.calls.specs.Laws.Begun.{caller_four, caller_label, caller_clearance}
-use Rattle.calls.specs.Laws.Leave.{told}
-use Rattle.calls.specs.Laws.Creating.{create_five, create_judged}
+use Rattle.calls.specs.Laws.Leave.{told, told_on}
+use Rattle.calls.specs.Laws.Creating.{labels_long, create_five, create_judged, creating, made_done}
 
-module _ (b area l k x s : List ℕ) (c t d i : ℕ) (by : Caller b area c t) where
+module _ (w b area l k x s : List ℕ) (c t d i : ℕ) (same : w ≡ b) (by : Caller w area c t) where
   -- bad arguments: 4
-  pub gate_four : (n : ℕ) → n ≡ next_of (view b) → (good_label n true l && (good_label n false k && (good_text x && good_text s))) ≡ false
-      → GateJudged b area c d l k i x s (No BadArgument)
+  pub gate_four : (good_label (next_of (view w)) true l && (good_label (next_of (view w)) false k && (good_text x && good_text s))) ≡ false
+      → Told b area (verdict_on b area c (create_gate d l k i x s)) BadArgument
   unfolding good_arguments
-  gate_four n e bad =
-      told (caller_four b area c t by (create_gate d l k i x s) (subst (λ (m : ℕ). good_arguments m (create_gate d l k i x s) ≡ false) e bad)) by.ready
+  gate_four bad =
+      subst (λ (z : List ℕ). Told z area (verdict_on z area c (create_gate d l k i x s)) BadArgument) same
+      (told (caller_four w area c t by (create_gate d l k i x s) bad) by.ready)
 
-  module _ (n : ℕ) (g : n ≡ next_of (view b)) (good : (good_label n true l && (good_label n false k && (good_text x && good_text s))) ≡ true) where
-    arguments : good_arguments (next_of (view b)) (create_gate d l k i x s) ≡ true
+  module _ (good : (good_label (next_of (view w)) true l && (good_label (next_of (view w)) false k && (good_text x && good_text s))) ≡ true) where
+    arguments : good_arguments (next_of (view w)) (create_gate d l k i x s) ≡ true
     unfolding good_arguments
-    arguments = subst (λ (m : ℕ). good_arguments m (create_gate d l k i x s) ≡ true) g good
+    arguments = good
 
     -- no container that is open: 5
-    pub gate_five : open_container (view b) t d ≡ Nothing → GateJudged b area c d l k i x s (No NoEntry)
+    pub gate_five : (f : Refusal) → open_container (view w) t d ≡ Err f → (r : Result ℕ Refusal) → IsErr r × IsErrAnd r (λ y. y ≡ f) → GateJudged b area c d l k i x s r
     unfolding judge
-    gate_five =
-        create_five b area c t by (create_gate d l k i x s) d (new_gate l k i x s)
-        (flow (core.label_of l) (core.label_of k) ∷ flow (core.label_of k) ((world_of (view b) area).obj c).clearance ∷ []) arguments refl
+    gate_five f shut r on =
+        subst (λ (z : List ℕ). GateJudged z area c d l k i x s r) same
+        (told_on _ r on (create_five w area c t by (create_gate d l k i x s) d (new_gate l k i x s)
+        (flow (core.label_of l) (core.label_of k) ∷ flow (core.label_of k) ((world_of (view w) area).obj c).clearance ∷ []) arguments refl f shut))
 
     -- one that is, at row `at`: what is shared decides
-    pub gate_judged : (at : ℕ) → open_container (view b) t d ≡ At at
-        → (allowed : Tested) → allowed ≡ tested (cleared_conditions (label_of (view b) t) (clearance_of (view b) t) (core.label_of l) (core.label_of k))
-        → (r : Judged) → r ≡ admitted (view b) t at gate_code 1 allowed → GateJudged b area c d l k i x s r
+    pub gate_judged : (at : ℕ) → open_container (view w) t d ≡ Ok at
+        → (allowed : Result ⊤ Refusal) → allowed ≡ tested (cleared_conditions (label_of (view w) t) (clearance_of (view w) t) (core.label_of l) (core.label_of k))
+        → (r : Result ℕ Refusal) → r ≡ admitted (view w) t at gate_code 1 allowed → GateJudged b area c d l k i x s r
     unfolding judge gate_of kind_code
     gate_judged at o allowed e r h =
-        create_judged b area c t by (create_gate d l k i x s) d (new_gate l k i x s)
-        (flow (core.label_of l) (core.label_of k) ∷ flow (core.label_of k) ((world_of (view b) area).obj c).clearance ∷ []) arguments refl at o gate_code 1 allowed
+        subst (λ (z : List ℕ). GateJudged z area c d l k i x s r) same
+        (create_judged w area c t by (create_gate d l k i x s) d (new_gate l k i x s)
+        (flow (core.label_of l) (core.label_of k) ∷ flow (core.label_of k) ((world_of (view w) area).obj c).clearance ∷ []) arguments refl at o gate_code 1 allowed
         (record {
           of_kind_lem = refl;
           units = refl;
-          conditions = ap₂ (λ (u w : Label). tested (cleared_conditions u w (core.label_of l) (core.label_of k))) (caller_label b area c t by) (caller_clearance b area c t by) ∙ sym e;
+          conditions = ap₂ (λ (u w : Label). tested (cleared_conditions u w (core.label_of l) (core.label_of k))) (caller_label w area c t by) (caller_clearance w area c t by) ∙ sym e;
         })
-        r h
+        r h)
+
+-- what its judging needs at each way out
+pub ruleset ways_out = (gate_four, gate_five, gate_judged, labels_long)
 
 module _ (n : ℕ) (l k x s : List ℕ) (d i : ℕ) (good : good_arguments n (create_gate d l k i x s) ≡ true) where
   label_good : good_label n true l ≡ true
@@ -90,11 +95,24 @@ module _ (n : ℕ) (l k x s : List ℕ) (d i : ℕ) (good : good_arguments n (cr
     row_is = e ∙ ap₂ (λ (u w : Label). gate_row_of u w i) f g
 
     -- what is handed over is the gate
-    pub gate_whole : Handed row s x
+    gate_whole : Handed row s x
     gate_whole =
         subst (λ (z : NewRow). Handed z s x) (sym row_is)
         (gate_handed (core.label_of l) s (good_default n true l label_good) (label_of_length l) (good_text_long s (and_r (good_text x) (good_text s) texts_good))
         (core.label_of k) (good_default n false k clearance_good) (label_of_length k) i x (good_text_long x (and_l (good_text x) (good_text s) texts_good)))
 
-    pub gate_object : object_of row s x ≡ new_gate l k i x s
+    gate_object : object_of row s x ≡ new_gate l k i x s
     gate_object = ap (λ (z : NewRow). object_of z s x) row_is ∙ row_is_gate (core.label_of l) (core.label_of k) i s x
+
+    -- so it can be made, and the call is done by it
+    module _ (w b area : List ℕ) (c at : ℕ) (same : w ≡ b) (ready : Ready b area) (go : ToMake b area c (create_gate d l k i x s) d (new_gate l k i x s) at) where
+      pub gate_creating : Creating w at row s x
+      gate_creating = creating w b area c (create_gate d l k i x s) d (new_gate l k i x s) at same ready go row s x gate_whole
+
+      pub gate_done : (b' : List ℕ) → length b' ≡ length b → view b' ≡ created_in at (object_of row s x) (view w) → (v : ℕ) → v ≡ next_of (view w)
+          → Done b area c (create_gate d l k i x s) (Ok v) b' area
+      gate_done b' long made =
+          made_done w b area c (create_gate d l k i x s) d (new_gate l k i x s) at same ready go b' long (object_of row s x) made gate_object
+
+-- what is asked of the arguments where it is made
+pub ruleset arguments_fit = (gate_label_long, gate_clearance_long)

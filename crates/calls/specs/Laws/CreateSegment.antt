@@ -1,6 +1,7 @@
 -- Call 5: the verdict at each way out, and what the making leaves.
-use Rattle.std.specs.Prelude.{ℕ, ◌<◌, true, ◌&&◌, ◌≡◌, List, [], ◌∷◌, length, replicate}
+use Rattle.std.specs.Prelude.{ℕ, ◌<◌, true, ◌&&◌, ◌≡◌, List, [], ◌∷◌, length, replicate, ⊤, Result, Ok, Err}
 use Rattle.std.proofs.Common.{arith, ap, ◌∙◌, leb-true}
+use Rattle.std.specs.Result.{IsErr, IsErrAnd}
 use Rattle.std.proofs.Math.Bool.{false}
 use Rattle.std.proofs.Math.Path.{refl, sym, ap₂, subst}
 use Rattle.std.proofs.Math.Dec.{leb}
@@ -11,58 +12,63 @@ use Rattle.labels.specs.Core.Bytes.{label_of_length}
 use Rattle.labels.specs.Core.Formed.{and_l, and_r}
 use Rattle.rules.specs.Kernel.{segment_code, kind_code, flow, judge, good_arguments, good_label, good_text, max_quota, text_size, or_default, segment_default, segment_of, create_segment}
 use Rattle.tables.specs.Layout.{view}
-use Rattle.book.specs.declared.Found.TheVariants.{At, Nothing}
 use Rattle.book.specs.declared.make.NewRow.{NewRow}
 use Rattle.book.specs.Book.{next_of, label_of, clearance_of, world_of}
-use Rattle.book.specs.Make.{object_of, Handed}
+use Rattle.book.specs.Make.{object_of, Handed, Creating, created_in}
 use Rattle.book.specs.Laws.Handed.{segment_handed, row_is_segment}
-use Rattle.calls.specs.declared.Refusal.TheVariants.{BadArgument, NoEntry}
-use Rattle.calls.specs.declared.Judged.{Judged}
-use Rattle.calls.specs.declared.Judged.TheVariants.{No}
-use Rattle.calls.specs.declared.Tested.{Tested}
+use Rattle.calls.specs.declared.Refusal.{Refusal}
+use Rattle.calls.specs.declared.Refusal.TheVariants.{BadArgument}
+use Rattle.calls.specs.Outcome.{verdict_on, Told, Ready, Done}
 use Rattle.calls.specs.Conditions.{tested}
 use Rattle.calls.specs.Begun.{Caller}
 use Rattle.calls.specs.Lookup.{open_container}
-use Rattle.calls.specs.Creating.{plain_conditions, admitted}
+use Rattle.calls.specs.Creating.{plain_conditions, admitted, ToMake}
 use Rattle.calls.specs.CreateSegment.{new_segment, segment_row, SegmentJudged}
-use Rattle.calls.specs.Laws.Arguments.{good_long, good_default, good_text_long}
+use Rattle.calls.specs.Laws.Arguments.{good_long, good_default, good_text_long, first_long}
 use Rattle.calls.specs.Laws.Begun.{caller_four, caller_label, caller_clearance}
-use Rattle.calls.specs.Laws.Leave.{told}
-use Rattle.calls.specs.Laws.Creating.{create_five, create_judged, default_most}
+use Rattle.calls.specs.Laws.Leave.{told, told_on}
+use Rattle.calls.specs.Laws.Creating.{create_five, create_judged, default_most, creating, made_done}
 
-module _ (b area l s : List ℕ) (c t d q : ℕ) (by : Caller b area c t) where
+module _ (w b area l s : List ℕ) (c t d q : ℕ) (same : w ≡ b) (by : Caller w area c t) where
   -- bad arguments: 4
-  pub segment_four : (n : ℕ) → n ≡ next_of (view b) → (good_label n false l && (good_text s && leb q max_quota)) ≡ false → SegmentJudged b area c d l s q (No BadArgument)
+  pub segment_four : (good_label (next_of (view w)) false l && (good_text s && leb q max_quota)) ≡ false
+      → Told b area (verdict_on b area c (create_segment d l s q)) BadArgument
   unfolding good_arguments
-  segment_four n e bad =
-      told (caller_four b area c t by (create_segment d l s q) (subst (λ (m : ℕ). good_arguments m (create_segment d l s q) ≡ false) e bad)) by.ready
+  segment_four bad =
+      subst (λ (z : List ℕ). Told z area (verdict_on z area c (create_segment d l s q)) BadArgument) same
+      (told (caller_four w area c t by (create_segment d l s q) bad) by.ready)
 
-  module _ (n : ℕ) (g : n ≡ next_of (view b)) (good : (good_label n false l && (good_text s && leb q max_quota)) ≡ true) where
-    arguments : good_arguments (next_of (view b)) (create_segment d l s q) ≡ true
+  module _ (good : (good_label (next_of (view w)) false l && (good_text s && leb q max_quota)) ≡ true) where
+    arguments : good_arguments (next_of (view w)) (create_segment d l s q) ≡ true
     unfolding good_arguments
-    arguments = subst (λ (m : ℕ). good_arguments m (create_segment d l s q) ≡ true) g good
+    arguments = good
 
     -- no container that is open: 5
-    pub segment_five : open_container (view b) t d ≡ Nothing → SegmentJudged b area c d l s q (No NoEntry)
+    pub segment_five : (f : Refusal) → open_container (view w) t d ≡ Err f → (r : Result ℕ Refusal) → IsErr r × IsErrAnd r (λ y. y ≡ f) → SegmentJudged b area c d l s q r
     unfolding judge
-    segment_five =
-        create_five b area c t by (create_segment d l s q) d (new_segment l s q)
-        (flow (core.label_of l) ((world_of (view b) area).obj c).clearance ∷ []) arguments refl
+    segment_five f shut r on =
+        subst (λ (z : List ℕ). SegmentJudged z area c d l s q r) same
+        (told_on _ r on (create_five w area c t by (create_segment d l s q) d (new_segment l s q)
+        (flow (core.label_of l) ((world_of (view w) area).obj c).clearance ∷ []) arguments refl f shut))
 
     -- one that is, at row `at`: what is shared decides
-    pub segment_judged : (at : ℕ) → open_container (view b) t d ≡ At at
-        → (allowed : Tested) → allowed ≡ tested (plain_conditions (label_of (view b) t) (clearance_of (view b) t) (core.label_of l))
-        → (units : ℕ) → units ≡ or_default q segment_default → (r : Judged) → r ≡ admitted (view b) t at segment_code units allowed → SegmentJudged b area c d l s q r
+    pub segment_judged : (at : ℕ) → open_container (view w) t d ≡ Ok at
+        → (allowed : Result ⊤ Refusal) → allowed ≡ tested (plain_conditions (label_of (view w) t) (clearance_of (view w) t) (core.label_of l))
+        → (units : ℕ) → units ≡ or_default q segment_default → (r : Result ℕ Refusal) → r ≡ admitted (view w) t at segment_code units allowed → SegmentJudged b area c d l s q r
     unfolding judge segment_of kind_code
     segment_judged at o allowed e units f r h =
-        create_judged b area c t by (create_segment d l s q) d (new_segment l s q)
-        (flow (core.label_of l) ((world_of (view b) area).obj c).clearance ∷ []) arguments refl at o segment_code units allowed
+        subst (λ (z : List ℕ). SegmentJudged z area c d l s q r) same
+        (create_judged w area c t by (create_segment d l s q) d (new_segment l s q)
+        (flow (core.label_of l) ((world_of (view w) area).obj c).clearance ∷ []) arguments refl at o segment_code units allowed
         (record {
           of_kind_lem = refl;
           units = sym f;
-          conditions = ap₂ (λ (m k : Label). tested (plain_conditions m k (core.label_of l))) (caller_label b area c t by) (caller_clearance b area c t by) ∙ sym e;
+          conditions = ap₂ (λ (m k : Label). tested (plain_conditions m k (core.label_of l))) (caller_label w area c t by) (caller_clearance w area c t by) ∙ sym e;
         })
-        r h
+        r h)
+
+-- what its judging needs at each way out
+pub ruleset ways_out = (segment_four, segment_five, segment_judged, first_long)
 
 module _ (n : ℕ) (l s : List ℕ) (d q : ℕ) (good : good_arguments n (create_segment d l s q) ≡ true) where
   label_good : good_label n false l ≡ true
@@ -87,10 +93,23 @@ module _ (n : ℕ) (l s : List ℕ) (d q : ℕ) (good : good_arguments n (create
     row_is = e ∙ ap₂ segment_row f g
 
     -- what is handed over is the segment
-    pub segment_whole : Handed row s (replicate text_size 0)
+    segment_whole : Handed row s (replicate text_size 0)
     segment_whole =
         subst (λ (z : NewRow). Handed z s (replicate text_size 0)) (sym row_is)
         (segment_handed (core.label_of l) s (good_default n false l label_good) (label_of_length l) (good_text_long s (and_l (good_text s) (leb q max_quota) rest_good)) (or_default q segment_default))
 
-    pub segment_object : object_of row s (replicate text_size 0) ≡ new_segment l s q
+    segment_object : object_of row s (replicate text_size 0) ≡ new_segment l s q
     segment_object = ap (λ (z : NewRow). object_of z s (replicate text_size 0)) row_is ∙ row_is_segment (core.label_of l) (or_default q segment_default) s (replicate text_size 0)
+
+    -- so it can be made, and the call is done by it
+    module _ (w b area : List ℕ) (c i : ℕ) (same : w ≡ b) (ready : Ready b area) (go : ToMake b area c (create_segment d l s q) d (new_segment l s q) i) where
+      pub segment_creating : Creating w i row s (replicate text_size 0)
+      segment_creating = creating w b area c (create_segment d l s q) d (new_segment l s q) i same ready go row s (replicate text_size 0) segment_whole
+
+      pub segment_done : (b' : List ℕ) → length b' ≡ length b → view b' ≡ created_in i (object_of row s (replicate text_size 0)) (view w) → (v : ℕ) → v ≡ next_of (view w)
+          → Done b area c (create_segment d l s q) (Ok v) b' area
+      segment_done b' long made =
+          made_done w b area c (create_segment d l s q) d (new_segment l s q) i same ready go b' long (object_of row s (replicate text_size 0)) made segment_object
+
+-- what is asked of the arguments where it is made
+pub ruleset arguments_fit = (segment_label_long, segment_quota_low)

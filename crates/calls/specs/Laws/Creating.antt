@@ -1,46 +1,36 @@
 -- Calls 4 to 7: what they share, and the verdict by it.
-use Rattle.std.specs.Prelude.{ℕ, ◌≤◌, Bool, not, ◌&&◌, ◌≡◌, refl, length, eqb, leb}
+use Rattle.std.specs.Prelude.{ℕ, ◌≤◌, Bool, not, ◌&&◌, ◌≡◌, refl, length, eqb, leb, ⊤, Result, Ok, Err}
 use Rattle.std.proofs.Math.Bool.{true, false, cond}
 use Rattle.std.proofs.Math.Path.{sym, ap, subst}
-use Rattle.std.proofs.Common.{◌∙◌, eq-eqb, ne_eqb}
+use Rattle.std.proofs.Common.{◌∙◌}
 use mathlib.Core.List.{List, [], ◌∷◌, ◌++◌}
 use Rattle.labels.specs.Core.{label_size}
 use Rattle.labels.specs.Core.Formed.{and_l, and_r}
 use Rattle.rules.specs.Kernel.{container_code, Obj, grant, must, must_hold, make, opens, writing, flow, forbids, fits, Condition, Call, judge, good_arguments, good_label, create, or_default}
 use Rattle.tables.specs.Layout.{view}
-use Rattle.book.specs.declared.Found.TheVariants.{At, Nothing}
 use Rattle.book.specs.Book.{next_of, label_of, world_of}
 use Rattle.book.specs.declared.make.NewRow.{NewRow}
 use Rattle.book.specs.Enact.{enact_area}
 use Rattle.book.specs.Make.{Handed, Creating, created_in}
+use Rattle.book.specs.Sound.{Sound, Live}
 use Rattle.book.specs.Units.{spare_at}
 use Rattle.book.specs.Laws.Find.{kind_is, container_low}
 use Rattle.book.specs.Laws.Places.{create_enacts}
 use Rattle.book.specs.Laws.Tie.{world_next}
-use Rattle.calls.specs.declared.Answer.TheVariants.{Granted}
-use Rattle.calls.specs.declared.Refusal.TheVariants.{NoEntry, MaskForbids, NoSpare}
-use Rattle.calls.specs.declared.Tested.{Tested}
-use Rattle.calls.specs.declared.Judged.{Judged}
-use Rattle.calls.specs.declared.Judged.TheVariants.{No}
-use Rattle.calls.specs.Outcome.{verdict_on, Means, Ready, Done}
+use Rattle.calls.specs.declared.Refusal.{Refusal}
+use Rattle.calls.specs.declared.Refusal.TheVariants.{MaskForbids, NoSpare}
+use Rattle.calls.specs.Outcome.{verdict_on, Means, Ready, Told, Done}
 use Rattle.calls.specs.Begun.{Caller}
 use Rattle.calls.specs.Lookup.{open_container}
 use Rattle.calls.specs.Masks.{forbids_at}
 use Rattle.calls.specs.Creating.{Asked, admitted, ToMake}
 use Rattle.calls.specs.Laws.Arguments.{good_long}
-use Rattle.calls.specs.Laws.Begun.{caller_judged, caller_label}
-use Rattle.calls.specs.Laws.Lookup.{not_open, is_open, holder_row, holder_label, holder_forbids, holder_fits}
-use Rattle.calls.specs.Laws.Prelude.{must_passed, must_failed, book_long, done_granted}
-use Rattle.calls.specs.Laws.Leave.{told}
+use Rattle.calls.specs.Laws.Begun.{caller_judged, caller_label, sound_by_caller}
+use Rattle.calls.specs.Laws.Lookup.{shut_told, is_open, holder_row, holder_there, holder_label, holder_forbids, holder_fits}
+use Rattle.calls.specs.Laws.Prelude.{must_passed, book_long, done_granted}
 use Rattle.calls.specs.Laws.Tested.{means_tested, means_both}
 
 -- ---- arguments as the code tests them
-
-pub first_bad : (a b : Bool) → a ≡ false → false ≡ (a && b)
-first_bad a b e = sym (ap (λ (u : Bool). u && b) e)
-
-pub first_good : (a b r : Bool) → a ≡ true → r ≡ b → r ≡ (a && b)
-first_good a b r e f = f ∙ sym (ap (λ (u : Bool). u && b) e)
 
 -- a good label and a good clearance have their length
 pub labels_long : (n : ℕ) (l k : List ℕ) (rest : Bool) → (good_label n true l && (good_label n false k && rest)) ≡ true → (length l ≡ label_size) × (length k ≡ label_size)
@@ -50,14 +40,6 @@ labels_long n l k rest good = (
 )
 
 module _ (q d : ℕ) where
-  pub default_asked : q ≡ 0 → d ≡ or_default q d
-  unfolding or_default
-  default_asked e = sym (ap (λ (u : Bool). cond u d q) (eq-eqb q 0 e))
-
-  pub quota_asked : (q ≡ 0 → ⊥) → q ≡ or_default q d
-  unfolding or_default
-  quota_asked e = sym (ap (λ (u : Bool). cond u d q) (ne_eqb q 0 e))
-
   -- neither is above a bound of both
   pub default_most : (n : ℕ) → q ≤ n → d ≤ n → or_default q d ≤ n
   unfolding or_default
@@ -66,6 +48,12 @@ module _ (q d : ℕ) where
       go : (u : Bool) → cond u d q ≤ n
       go true = f
       go false = e
+
+-- ---- what admitting asks of the book
+
+pub admissible : (b area : List ℕ) (c t d : ℕ) → Caller b area c t → (k : ℕ) → open_container (view b) t d ≡ Ok k → (code : ℕ) → 1 ≤ code → code ≤ 64
+    → Sound (view b) × Live (view b) k × (1 ≤ code) × (code ≤ 64)
+admissible b area c t d by k e code l n = (sound_by_caller b area c t by, holder_there b area c t d by k e, l, n)
 
 -- ---- the verdict
 
@@ -82,10 +70,10 @@ module _ (b area : List ℕ) (c t : ℕ) (by : Caller b area c t) (call : Call) 
   chain = caller_judged b area c t by call good ∙ made
 
   -- no container that is open: 5
-  pub create_five : open_container (view b) t d ≡ Nothing → Means b area (verdict_on b area c call) (ToMake b area c call d x) (No NoEntry)
-  create_five e = told (chain ∙ must_failed _ 5 _ (not_open b area c t d by e)) by.ready
+  pub create_five : (f : Refusal) → open_container (view b) t d ≡ Err f → Told b area (verdict_on b area c call) f
+  create_five = shut_told b area c t d by _ _ chain
 
-  module _ (k : ℕ) (e : open_container (view b) t d ≡ At k) (code quota : ℕ) (allowed : Tested)
+  module _ (k : ℕ) (e : open_container (view b) t d ≡ Ok k) (code quota : ℕ) (allowed : Result ⊤ Refusal)
       (a : Asked ((world_of (view b) area).obj c) x more code quota allowed) where
     forbidden : forbids ((world_of (view b) area).obj d).mask x.kind ≡ forbids_at (view b) k code
     forbidden = holder_forbids b area c t d by k e x.kind ∙ ap (forbids_at (view b) k) a.of_kind_lem
@@ -106,7 +94,7 @@ module _ (b area : List ℕ) (c t : ℕ) (by : Caller b area c t) (call : Call) 
         (must (not (forbidden i)) 8 (must (fitting i) 13 (grant (world_next (view b) area i) [] (create d x)))))
 
     -- what is answered of them is what the call comes to
-    pub create_judged : (r : Judged) → r ≡ admitted (view b) t k code quota allowed → Means b area (verdict_on b area c call) (ToMake b area c call d x) r
+    pub create_judged : (r : Result ℕ Refusal) → r ≡ admitted (view b) t k code quota allowed → Means b area (verdict_on b area c call) (ToMake b area c call d x) r
     create_judged r f =
         let go = ToMake b area c call d x in
         let v = verdict_on b area c call in
@@ -116,23 +104,25 @@ module _ (b area : List ℕ) (c t : ℕ) (by : Caller b area c t) (call : Call) 
         (λ g3 e3. means_tested b area by.ready go v _ NoSpare 13 _ _ refl e3
         (λ g4 e4. (by.ready, record { good = good; granted = e4; container = holder_row b area c t d by k e })))))
 
--- ---- the making
+-- ---- the making, in a book with the bytes w
 
-module _ (b area : List ℕ) (c : ℕ) (call : Call) (d : ℕ) (x : Obj) (i j : ℕ) (ready : Ready b area) (go : ToMake b area c call d x i j) where
+module _ (w b area : List ℕ) (c : ℕ) (call : Call) (d : ℕ) (x : Obj) (i : ℕ) (same : w ≡ b) (ready : Ready b area) (go : ToMake b area c call d x i) where
   -- what the book asks of a create
-  pub creating : (n : NewRow) (s y : List ℕ) → Handed n s y → Creating b i n s y
+  pub creating : (n : NewRow) (s y : List ℕ) → Handed n s y → Creating w i n s y
   creating n s y h =
-      record {
+      subst (λ (z : List ℕ). Creating z i n s y) (sym same)
+      (record {
         going = record { whole = book_long b area ready.areas; numbers = ready.number };
         low = container_low (view b) d i go.container;
         handed = h;
-      }
+      })
 
   -- what it leaves is the call done
-  pub made_done : (b' : List ℕ) → length b' ≡ length b → (o : Obj) → view b' ≡ created_in i o (view b) → o ≡ x → (n : ℕ) → n ≡ next_of (view b)
-      → Done b area c call (Granted n) b' area
+  pub made_done : (b' : List ℕ) → length b' ≡ length b → (o : Obj) → view b' ≡ created_in i o (view w) → o ≡ x → (n : ℕ) → n ≡ next_of (view w)
+      → Done b area c call (Ok n) b' area
   unfolding enact_area
   made_done b' long o e f n g =
-      subst (λ (v : ℕ). Done b area c call (Granted v) b' area) (sym g)
+      subst (λ (v : ℕ). Done b area c call (Ok v) b' area) (sym (g ∙ ap (λ (z : List ℕ). next_of (view z)) same))
       (done_granted b area c call ready b' long (next_of (view b)) [] (create d x) area go.granted
-      (e ∙ ap (λ (z : Obj). created_in i z (view b)) f ∙ sym (create_enacts d i x (view b) area (kind_is container_code (view b) d i go.container).0)) refl)
+      (e ∙ ap (λ (z : List ℕ). created_in i o (view z)) same ∙ ap (λ (z : Obj). created_in i z (view b)) f
+      ∙ sym (create_enacts d i x (view b) area (kind_is container_code (view b) d i go.container).0)) refl)

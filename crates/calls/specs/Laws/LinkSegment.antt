@@ -1,33 +1,34 @@
 -- Call 9: the verdict at each way out of its judging, and what it does.
-use Rattle.std.specs.Prelude.{ℕ, Bool, true, false, not, ◌&&◌, ◌≡◌, List, [], ◌∷◌, ◌++◌, length, eqb, leb}
+use Rattle.std.specs.Prelude.{ℕ, Bool, true, false, not, ◌&&◌, ◌≡◌, List, [], ◌∷◌, ◌++◌, length, eqb, leb, Result, Ok, Err}
+use Rattle.std.specs.Option.{is_none}
 use Rattle.std.proofs.Math.Path.{refl}
 use Rattle.std.proofs.Common.{sym, ap, ap₂, subst, ◌∙◌}
-use Rattle.rules.specs.Kernel.{segment_code, segment, kind_code, Obj, World, Verdict, refuse, grant, must, must_hold, judge, entry, opens, forbids, fits, is_segment, writing, flow}
+use Rattle.rules.specs.Kernel.{segment_code, segment, kind_code, Obj, World, Verdict, grant, must, must_hold, judge, entry, opens, forbids, fits, is_segment, writing, flow}
 use Rattle.rules.specs.Kernel.{link_segment, link, good_arguments}
 use Rattle.tables.specs.Layout.{view}
-use Rattle.book.specs.declared.Found.TheVariants.{At, Nothing}
-use Rattle.book.specs.declared.find.Entry.TheVariants as place
-use Rattle.book.specs.Book.{on_found, id_of, code_of, fixed_of, quota_of, label_of, clearance_of, world_of}
+use Rattle.book.specs.Book.{id_of, code_of, fixed_of, quota_of, label_of, clearance_of, world_of}
 use Rattle.book.specs.Enact.{enact_view, enact_area}
 use Rattle.book.specs.Find.{link_between}
 use Rattle.book.specs.Make.{linked_in, Linking}
 use Rattle.book.specs.Units.{spare_at}
-use Rattle.book.specs.Laws.First.{on_at, on_nothing, found_cases}
-use Rattle.book.specs.Laws.Find.{link_linked, link_unlinked}
+use Rattle.book.specs.Laws.First.{found_cases}
+use Rattle.book.specs.Laws.Find.{row_low, link_linked, link_unlinked}
 use Rattle.book.specs.Laws.Tie.{object_fixed}
-use Rattle.calls.specs.declared.Answer.TheVariants.{Granted}
-use Rattle.calls.specs.declared.Refusal.TheVariants.{MaskForbids, QuotaFixed, AlreadyLinked, NoSpare}
-use Rattle.calls.specs.declared.Judged.{Judged}
-use Rattle.calls.specs.Outcome.{verdict_on, Means, Ready, Done}
+use Rattle.calls.specs.declared.Refusal.{Refusal}
+use Rattle.calls.specs.declared.Refusal.TheVariants.{MaskForbids, QuotaFixed, AlreadyLinked, NoSpare, WrongKind}
+use Rattle.book.specs.declared.find.Entry.{Entry}
+use Rattle.calls.specs.Outcome.{verdict_on, Means, Ready, Told, Done}
 use Rattle.calls.specs.Begun.{Caller}
 use Rattle.calls.specs.Lookup.{open_container, open_entry}
 use Rattle.calls.specs.Masks.{forbids_at}
 use Rattle.calls.specs.LinkSegment.{ToLink, LinkJudged, linkable}
 use Rattle.calls.specs.Laws.Begun.{caller_judged, caller_label, caller_clearance, placed_by_caller}
-use Rattle.calls.specs.Laws.Entry.{no_entry, is_entry, object_below, object_there, object_named, object_found, object_is, segment_here, no_segment, its_label, its_quota}
-use Rattle.calls.specs.Laws.Lookup.{not_open, is_open, holder_there, holder_named, holder_found, holder_label, holder_forbids, holder_fits}
+use Rattle.calls.specs.Laws.Entry.{no_entry, is_entry, object_there, object_named, object_found, object_is, segment_here, no_segment, its_label, its_quota}
+use Rattle.calls.specs.Laws.Lookup.{shut_is, five_told, not_open, is_open, holder_there, holder_named, holder_found, holder_label, holder_forbids, holder_fits}
 use Rattle.calls.specs.Laws.Prelude.{must_passed, must_failed, book_long, done_granted}
 use Rattle.calls.specs.Laws.Tested.{means_tested, means_both}
+use Rattle.std.specs.Result.{IsErr, IsErrAnd}
+use Rattle.calls.specs.Laws.Leave.{told, told_on}
 
 -- the tests from 8 on
 abbrev from_eight : Bool → Bool → Bool → Bool → ℕ → ℕ → Verdict
@@ -44,92 +45,99 @@ and_false : (a : Bool) → (a && false) ≡ false
 and_false true = refl
 and_false false = refl
 
-module _ (b area : List ℕ) (c t d1 o d : ℕ) (by : Caller b area c t) where
-  judged : verdict_on b area c (link_segment d1 o d)
-      ≡ must (entry (world_of (view b) area) ((world_of (view b) area).obj c) d1 o && opens (world_of (view b) area) ((world_of (view b) area).obj c) d) 5
-      (from_six (world_of (view b) area) ((world_of (view b) area).obj c) o d)
+module _ (b area : List ℕ) (c t d1 o d : ℕ) (book : List ℕ) (lent : book ≡ b) (by : Caller book area c t) where
+  judged : verdict_on book area c (link_segment d1 o d)
+      ≡ must (entry (world_of (view book) area) ((world_of (view book) area).obj c) d1 o && opens (world_of (view book) area) ((world_of (view book) area).obj c) d) 5
+      (from_six (world_of (view book) area) ((world_of (view book) area).obj c) o d)
   unfolding judge good_arguments
-  judged = caller_judged b area c t by (link_segment d1 o d) refl
+  judged = caller_judged book area c t by (link_segment d1 o d) refl
 
   -- no entry: 5
-  pub none_five : open_entry (view b) t d1 o ≡ place.Nothing → verdict_on b area c (link_segment d1 o d) ≡ refuse 5
-  none_five e =
-      judged ∙ must_failed _ 5 _ (ap (λ a. a && opens (world_of (view b) area) ((world_of (view b) area).obj c) d) (no_entry b area c t d1 o by e))
+  pub link_five : (f : Refusal) → open_entry (view book) t d1 o ≡ Err f → (r : Result (ℕ × ℕ) Refusal) → IsErr r × IsErrAnd r (λ e. e ≡ f) → LinkJudged b area c d1 o d r
+  link_five f e r h =
+      let (n, q) = no_entry book area c t d1 o by f e in
+      rw (sym lent)
+      (told_on _ r h (five_told by.ready f q (judged ∙ must_failed _ 5 _ (ap (λ a. a && opens (world_of (view book) area) ((world_of (view book) area).obj c) d) n))))
 
   -- no container to link it in: 5
-  pub nowhere_five : open_container (view b) t d ≡ Nothing → verdict_on b area c (link_segment d1 o d) ≡ refuse 5
-  nowhere_five e =
-      judged
+  pub nowhere_five : (f : Refusal) → open_container (view book) t d ≡ Err f → (r : Result (ℕ × ℕ) Refusal) → IsErr r × IsErrAnd r (λ e. e ≡ f) → LinkJudged b area c d1 o d r
+  nowhere_five f e r h =
+      rw (sym lent)
+      (told_on _ r h
+      (five_told by.ready f (shut_is (view book) t d f e)
+      (judged
       ∙ must_failed _ 5 _
-      (ap (λ a. entry (world_of (view b) area) ((world_of (view b) area).obj c) d1 o && a) (not_open b area c t d by e)
-      ∙ and_false (entry (world_of (view b) area) ((world_of (view b) area).obj c) d1 o))
+      (ap (λ a. entry (world_of (view book) area) ((world_of (view book) area).obj c) d1 o && a) (not_open book area c t d by f e)
+      ∙ and_false (entry (world_of (view book) area) ((world_of (view book) area).obj c) d1 o)))))
 
-  -- it stands in the container at row h and is to be linked in that at row k; n is the code of its kind
-  module _ (h r l : ℕ) (e : open_entry (view b) t d1 o ≡ place.In h r l) (k : ℕ) (g : open_container (view b) t d ≡ At k) (n : ℕ) (en : n ≡ code_of (view b) r) where
-    at_six : verdict_on b area c (link_segment d1 o d) ≡ from_six (world_of (view b) area) ((world_of (view b) area).obj c) o d
-    at_six = judged ∙ must_passed _ 5 _ (ap₂ ◌&&◌ (is_entry b area c t d1 o by h r l e) (is_open b area c t d by k g))
+  -- it is at place p and to be linked in the container at row k
+  module _ (p : Entry) (e : open_entry (view book) t d1 o ≡ Ok p) (k : ℕ) (g : open_container (view book) t d ≡ Ok k) where
+    at_six : verdict_on book area c (link_segment d1 o d) ≡ from_six (world_of (view book) area) ((world_of (view book) area).obj c) o d
+    at_six = judged ∙ must_passed _ 5 _ (ap₂ ◌&&◌ (is_entry book area c t d1 o by p e) (is_open book area c t d by k g))
 
     -- no segment: 6
-    pub kind_six : (n ≡ segment_code → ⊥) → verdict_on b area c (link_segment d1 o d) ≡ refuse 6
-    kind_six s = at_six ∙ must_failed _ 6 _ (no_segment b area c t d1 o by h r l e n en s)
+    pub link_six : (code_of (view book) p.object ≡ segment_code → ⊥) → Told b area (verdict_on b area c (link_segment d1 o d)) WrongKind
+    link_six s = rw (sym lent) (told (at_six ∙ must_failed _ 6 _ (no_segment book area c t d1 o by p e _ refl s)) by.ready)
 
-    module _ (s : n ≡ segment_code) where
-      forbidden : forbids ((world_of (view b) area).obj d).mask segment ≡ forbids_at (view b) k segment_code
+    module _ (s : code_of (view book) p.object ≡ segment_code) where
+      forbidden : forbids ((world_of (view book) area).obj d).mask segment ≡ forbids_at (view book) k segment_code
       unfolding kind_code
-      forbidden = holder_forbids b area c t d by k g segment
+      forbidden = holder_forbids book area c t d by k g segment
 
-      fixed_is : ((world_of (view b) area).obj o).fixed ≡ eqb (fixed_of (view b) r) 1
-      fixed_is = ap (λ (v : Obj). v.fixed) (object_is b area c t d1 o by h r l e) ∙ object_fixed (view b) area r (sym en ∙ s)
+      fixed_is : ((world_of (view book) area).obj o).fixed ≡ eqb (fixed_of (view book) p.object) 1
+      fixed_is = ap (λ (v : Obj). v.fixed) (object_is book area c t d1 o by p e) ∙ object_fixed (view book) area p.object s
 
-      named : (world_of (view b) area).linked d o ≡ (world_of (view b) area).linked (id_of (view b) k) (id_of (view b) r)
-      named = ap₂ (world_of (view b) area).linked (sym (holder_named b area c t d by k g)) (sym (object_named b area c t d1 o by h r l e))
+      named : (world_of (view book) area).linked d o ≡ (world_of (view book) area).linked (id_of (view book) k) (id_of (view book) p.object)
+      named = ap₂ (world_of (view book) area).linked (sym (holder_named book area c t d by k g)) (sym (object_named book area c t d1 o by p e))
 
-      is_new : not ((world_of (view b) area).linked d o) ≡ on_found (link_between (view b) k r) (λ l. false) true
+      is_new : not ((world_of (view book) area).linked d o) ≡ is_none (link_between (view book) k p.object)
       is_new =
-          found_cases (link_between (view b) k r)
-          (λ m v. ap not (named ∙ link_linked (view b) area k r m v) ∙ sym (on_at (link_between (view b) k r) m (λ l. false) true v))
-          (λ v. ap not (named ∙ link_unlinked (view b) area k r (placed_by_caller b area c t by) (holder_there b area c t d by k g) (object_there b area c t d1 o by h r l e) v)
-          ∙ sym (on_nothing (link_between (view b) k r) (λ l. false) true v))
+          found_cases (link_between (view book) k p.object)
+          (λ m v. ap not (named ∙ link_linked (view book) area k p.object m v) ∙ sym (ap is_none v))
+          (λ v. ap not (named ∙ link_unlinked (view book) area k p.object (placed_by_caller book area c t by) (holder_there book area c t d by k g) (object_there book area c t d1 o by p e) v)
+          ∙ sym (ap is_none v))
 
-      fitting : fits (world_of (view b) area) d ((world_of (view b) area).obj o).quota ≡ leb (quota_of (view b) r) (spare_at (view b) k)
+      fitting : fits (world_of (view book) area) d ((world_of (view book) area).obj o).quota ≡ leb (quota_of (view book) p.object) (spare_at (view book) k)
       fitting =
-          holder_fits b area c t d by k g ((world_of (view b) area).obj o).quota
-          ∙ ap (λ (q : ℕ). leb q (spare_at (view b) k)) (its_quota b area c t d1 o by h r l e)
+          holder_fits book area c t d by k g ((world_of (view book) area).obj o).quota
+          ∙ ap (λ (q : ℕ). leb q (spare_at (view book) k)) (its_quota book area c t d1 o by p e)
 
       -- the tests from 7 on, of the rows
-      from_seven : verdict_on b area c (link_segment d1 o d)
-          ≡ must_hold (writing (label_of (view b) t) (label_of (view b) k) ++ (flow (label_of (view b) r) (clearance_of (view b) t) ∷ []))
-          (from_eight (forbids_at (view b) k segment_code) (eqb (fixed_of (view b) r) 1) (on_found (link_between (view b) k r) (λ l. false) true)
-          (leb (quota_of (view b) r) (spare_at (view b) k)) o d)
+      from_seven : verdict_on book area c (link_segment d1 o d)
+          ≡ must_hold (writing (label_of (view book) t) (label_of (view book) k) ++ (flow (label_of (view book) p.object) (clearance_of (view book) t) ∷ []))
+          (from_eight (forbids_at (view book) k segment_code) (eqb (fixed_of (view book) p.object) 1) (is_none (link_between (view book) k p.object))
+          (leb (quota_of (view book) p.object) (spare_at (view book) k)) o d)
       from_seven =
           at_six
-          ∙ must_passed _ 6 _ (segment_here b area c t d1 o by h r l e n en s)
-          ∙ (λ i. must_hold (writing (caller_label b area c t by i) (holder_label b area c t d by k g i)
-          ++ (flow (its_label b area c t d1 o by h r l e i) (caller_clearance b area c t by i) ∷ []))
+          ∙ must_passed _ 6 _ (segment_here book area c t d1 o by p e _ refl s)
+          ∙ (λ i. must_hold (writing (caller_label book area c t by i) (holder_label book area c t d by k g i)
+          ++ (flow (its_label book area c t d1 o by p e i) (caller_clearance book area c t by i) ∷ []))
           (from_eight (forbidden i) (fixed_is i) (is_new i) (fitting i) o d))
 
-      to_link : verdict_on b area c (link_segment d1 o d) ≡ grant 0 [] (link d o) → ToLink b area c d1 o d k r
+      to_link : verdict_on book area c (link_segment d1 o d) ≡ grant 0 [] (link d o) → ToLink book area c d1 o d k p.object
       to_link v =
           record {
             granted = v;
-            container_low = (holder_there b area c t d by k g).low;
-            object_low = object_below b area c t d1 o by h r l e;
-            container_row_lem = holder_found b area c t d by k g;
-            object_row = object_found b area c t d1 o by h r l e;
+            container_row_lem = holder_found book area c t d by k g;
+            object_row = object_found book area c t d1 o by p e;
           }
 
       -- what is answered of them is what the call comes to
-      pub link_judged : (j : Judged) → j ≡ linkable (view b) t k r → LinkJudged b area c d1 o d j
+      pub link_judged : (j : Result (ℕ × ℕ) Refusal) → j ≡ linkable (view book) t k p.object → LinkJudged b area c d1 o d j
       link_judged j f =
-          let go = ToLink b area c d1 o d in
-          let v = verdict_on b area c (link_segment d1 o d) in
-          subst (Means b area v go) (sym f)
-          (means_both b area by.ready go v (writing (label_of (view b) t) (label_of (view b) k)) _ _ refl _ _ from_seven
-          (λ e7. means_tested b area by.ready go v _ MaskForbids 8 _ _ refl e7
-          (λ g8 e8. means_tested b area by.ready go v _ QuotaFixed 9 _ _ refl e8
-          (λ g9 e9. means_tested b area by.ready go v _ AlreadyLinked 10 _ _ refl e9
-          (λ g10 e10. means_tested b area by.ready go v _ NoSpare 13 _ _ refl e10
-          (λ g13 e13. (by.ready, to_link e13)))))))
+          let go : ℕ × ℕ → Type 0 = λ x. ToLink book area c d1 o d x.0 x.1 in
+          let v = verdict_on book area c (link_segment d1 o d) in
+          rw (sym lent)
+          (subst (Means book area v go) (sym f)
+          (means_both book area by.ready go v (writing (label_of (view book) t) (label_of (view book) k)) _ _ refl _ _ from_seven
+          (λ e7. means_tested book area by.ready go v _ MaskForbids 8 _ _ refl e7
+          (λ g8 e8. means_tested book area by.ready go v _ QuotaFixed 9 _ _ refl e8
+          (λ g9 e9. means_tested book area by.ready go v _ AlreadyLinked 10 _ _ refl e9
+          (λ g10 e10. means_tested book area by.ready go v _ NoSpare 13 _ _ refl e10
+          (λ g13 e13. (by.ready, to_link e13))))))))
+
+-- what its judging needs at each way out
+pub ruleset ways_out = (link_five, nowhere_five, link_six, link_judged)
 
 -- ---- doing it
 
@@ -137,7 +145,11 @@ module _ (b area : List ℕ) (c d1 o d k r : ℕ) (ready : Ready b area) (go : T
   -- a link can be added there
   pub can_link : Linking b k r
   can_link =
-      record { going = record { whole = book_long b area ready.areas; numbers = ready.number }; container_low = go.container_low; object_low = go.object_low }
+      record {
+        going = record { whole = book_long b area ready.areas; numbers = ready.number };
+        container_low = row_low (view b) d k go.container_row_lem;
+        object_low = row_low (view b) o r go.object_row;
+      }
 
   links : enact_view (link d o) (view b) area ≡ linked_in k r (view b)
   unfolding enact_view linked_in
@@ -148,6 +160,6 @@ module _ (b area : List ℕ) (c d1 o d k r : ℕ) (ready : Ready b area) (go : T
   same_area = refl
 
   -- linked there, the call is done
-  pub link_done : (b' : List ℕ) → length b' ≡ length b → view b' ≡ linked_in k r (view b) → Done b area c (link_segment d1 o d) (Granted 0) b' area
+  pub link_done : (b' : List ℕ) → length b' ≡ length b → view b' ≡ linked_in k r (view b) → Done b area c (link_segment d1 o d) (Ok 0) b' area
   link_done b' long m =
       done_granted b area c (link_segment d1 o d) ready b' long 0 [] (link d o) area go.granted (m ∙ sym links) same_area

@@ -1,9 +1,10 @@
 -- What every call's judging begins with, and what its tests make of the verdict.
-use Rattle.std.specs.Prelude.{ℕ, ◌≤◌, ◌<◌, Bool, true, false, ◌&&◌, ◌≡◌, refl, List, length, eqb}
+use Rattle.std.specs.Prelude.{ℕ, ◌≤◌, ◌<◌, Bool, true, false, ◌&&◌, ◌≡◌, refl, List, length, eqb, Ok, Err}
 use Rattle.std.proofs.lemmas.Bool.{false≢true}
-use Rattle.std.proofs.Common.{sym, subst, ◌∙◌}
+use Rattle.std.proofs.Common.{sym, ◌∙◌}
 use borrow.Author.Tests.{le-leb, lt-leb, eqb-true}
-use Rattle.rules.specs.Kernel.{Refusal, by, number_of, value_with, Verdict, refused, refuse, grant, unless, must, Call, Change, call, tests, judge, is_thread, good_arguments}
+use Rattle.rules.specs.Kernel as kernel
+use Rattle.rules.specs.Kernel.{by, number_of, value_with, Verdict, refused, refuse, grant, unless, must, Call, Change, call, tests, judge, is_thread, good_arguments}
 use Rattle.rules.specs.Kernel.{last_number, answer_of, value_of}
 use Rattle.rules.specs.Sound as rules
 use Rattle.tables.specs.Layout.{view, size}
@@ -14,8 +15,8 @@ use Rattle.book.specs.Test.{areas_b, sound_b}
 use Rattle.book.proofs.Laws.Means.{sound_means}
 use Rattle.book.specs.Laws.Shapes.{view_shape}
 use Rattle.book.specs.Laws.WorldSound.{world_sound}
-use Rattle.calls.specs.declared.Answer.TheVariants.{Granted, Refused}
-use Rattle.calls.specs.Outcome.{verdict_on, book_left, area_left, Done, Ready}
+use Rattle.calls.specs.declared.Refusal.{Refusal}
+use Rattle.calls.specs.Outcome.{verdict_on, book_left, area_left, Done, Ready, ruled}
 
 -- ---- must
 
@@ -94,45 +95,45 @@ module _ (b area : List ℕ) (c : ℕ) (x : Call) where
 -- ---- what is left after each way out
 
 -- a refusal has the value 0
-pub no_value : (f : Refusal) → value_with f ≡ 0
+pub no_value : (f : kernel.Refusal) → value_with f ≡ 0
 no_value (by k) = refl
 
 module _ (b area : List ℕ) (c : ℕ) (x : Call) where
   -- refused by 1 or 2: nothing changed
-  pub done_stopped : (f : Refusal) (n : ℕ) → n ≡ number_of f → verdict_on b area c x ≡ refused f → n ≤ 2 → Done b area c x (Refused n) b area
+  pub done_stopped : (r : Refusal) → verdict_on b area c x ≡ refused (ruled r) → number_of (ruled r) ≤ 2 → Done b area c x (Err r) b area
   unfolding book_left area_left answer_of value_of
-  done_stopped f n i e l =
+  done_stopped r e l =
       record {
-        answer = rw e i;
-        value = rw e (sym (no_value f));
-        left = record { length_same = refl; book_kept = λ g. refl; book_left_lem = λ g. rw (e, le-leb (number_of f) 2 (subst (λ m. m ≤ 2) i l)); area_left_lem = rw e };
+        answer_is = rw e;
+        value_is = rw e (sym (no_value (ruled r)));
+        left = record { length_same = refl; book_kept = λ g. refl; book_left_lem = λ g. rw (e, le-leb (number_of (ruled r)) 2 l); area_left_lem = rw e };
       }
 
   module _ (ready : Ready b area) (b' : List ℕ) (long : length b' ≡ length b) where
     -- refused by a later number: the number moved on
-    pub done_refused : (f : Refusal) (n : ℕ) → n ≡ number_of f → verdict_on b area c x ≡ refused f → 2 < n → view b' ≡ moved_on (view b)
-        → Done b area c x (Refused n) b' area
+    pub done_refused : (r : Refusal) → verdict_on b area c x ≡ refused (ruled r) → 2 < number_of (ruled r) → view b' ≡ moved_on (view b)
+        → Done b area c x (Err r) b' area
     unfolding book_left area_left answer_of value_of
-    done_refused f n i e l m =
+    done_refused r e l m =
         record {
-          answer = rw e i;
-          value = rw e (sym (no_value f));
+          answer_is = rw e;
+          value_is = rw e (sym (no_value (ruled r)));
           left =
               record {
                 length_same = long;
                 book_kept = λ g. absurd (false≢true (sym g ∙ ready.areas));
-                book_left_lem = λ g. rw (e, lt-leb (number_of f) 2 (subst (λ k. 2 < k) i l)) m;
+                book_left_lem = λ g. rw (e, lt-leb (number_of (ruled r)) 2 l) m;
                 area_left_lem = rw e;
               };
         }
 
     -- granted: the change was enacted
     pub done_granted : (v : ℕ) (o : List ℕ) (h : Change) (area' : List ℕ) → verdict_on b area c x ≡ grant v o h
-        → view b' ≡ enact_view h (view b) area → area' ≡ enact_area h (view b) area → Done b area c x (Granted v) b' area'
+        → view b' ≡ enact_view h (view b) area → area' ≡ enact_area h (view b) area → Done b area c x (Ok v) b' area'
     unfolding book_left area_left answer_of value_of
     done_granted v o h area' e m n =
         record {
-          answer = rw e;
-          value = rw e;
+          answer_is = rw e;
+          value_is = rw e;
           left = record { length_same = long; book_kept = λ g. absurd (false≢true (sym g ∙ ready.areas)); book_left_lem = λ g. rw e m; area_left_lem = rw e n };
         }

@@ -1,66 +1,65 @@
 -- Call 2: the verdict at each way out of its judging.
-use Rattle.std.specs.Prelude.{ℕ, true, false, ◌≡◌}
+use Rattle.std.specs.Prelude.{ℕ, true, false, ◌≡◌, Result, Err, Ok}
 use Rattle.std.proofs.Common.{sym, ◌∙◌}
 use Rattle.std.proofs.Math.Path.{ap₂}
 use mathlib.Core.List.{List, [], ◌∷◌}
 use Rattle.labels.specs.declared.Label.{Label}
 use Rattle.labels.specs.Core as label
-use Rattle.rules.specs.Kernel.{refuse, grant, must_hold, judge, flow, set_label, alter, relabel, good_label, good_arguments}
+use Rattle.rules.specs.Kernel.{grant, must_hold, judge, flow, set_label, alter, relabel, good_label, good_arguments}
 use Rattle.tables.specs.Layout.{view}
 use Rattle.book.specs.Book.{next_of, label_of, clearance_of}
 use Rattle.calls.specs.declared.Refusal.{Refusal}
-use Rattle.calls.specs.declared.Tested.{Tested}
-use Rattle.calls.specs.declared.Tested.TheVariants.{Pass, Fail}
 use Rattle.calls.specs.Outcome.{verdict_on, Told}
-use Rattle.calls.specs.Conditions.{tested}
+use Rattle.calls.specs.Conditions.{passed, tested}
 use Rattle.calls.specs.Begun.{Caller}
-use Rattle.calls.specs.SetLabel.{ToSetLabel}
+use Rattle.calls.specs.SetLabel.{LabelJudged}
 use Rattle.calls.specs.Laws.Arguments.{good_long, good_default}
-use Rattle.calls.specs.Laws.Begun.{caller_four, caller_judged, caller_label, caller_clearance, caller_low}
+use Rattle.calls.specs.Laws.Begun.{caller_four, caller_judged, caller_label, caller_clearance}
 use Rattle.calls.specs.Laws.Conditions.{pass_on, fail_told}
 use Rattle.calls.specs.Laws.Relabel.{caller_row, caller_clearance_fits}
+use Rattle.std.specs.Result.{IsErr, IsErrAnd}
+use Rattle.calls.specs.Laws.Leave.{told, told_on}
+use Rattle.calls.specs.declared.Refusal.TheVariants.{BadArgument}
 
--- RULES 8.2: "7 unless T flows to L and L flows to T's clearance."
-module _ (mine taken cleared : Label) where
-  -- asked of these labels by other names
-  pub label_asked : (mine₂ taken₂ cleared₂ : Label) → mine ≡ mine₂ → taken ≡ taken₂ → cleared ≡ cleared₂
-      → (r : Tested) → r ≡ tested (flow mine taken ∷ flow taken cleared ∷ []) → tested (flow mine₂ taken₂ ∷ flow taken₂ cleared₂ ∷ []) ≡ r
-  label_asked mine₂ taken₂ cleared₂ p q s r e = sym (e ∙ (λ i. tested (flow (p i) (q i) ∷ flow (q i) (s i) ∷ [])))
-
-module _ (b area : List ℕ) (c t : ℕ) (l : List ℕ) (by : Caller b area c t) where
+module _ (b area : List ℕ) (c t : ℕ) (l : List ℕ) (book : List ℕ) (lent : book ≡ b) (by : Caller book area c t) where
   -- malformed: 4
-  pub label_four : good_label (next_of (view b)) true l ≡ false → verdict_on b area c (set_label l) ≡ refuse 4
+  pub label_four : good_label (next_of (view book)) true l ≡ false → Told b area (verdict_on b area c (set_label l)) BadArgument
   unfolding good_arguments
-  label_four g = caller_four b area c t by (set_label l) g
+  label_four g = rw (sym lent) (told (caller_four book area c t by (set_label l) g) by.ready)
 
-  module _ (good : good_label (next_of (view b)) true l ≡ true) where
-    judged : verdict_on b area c (set_label l)
-        ≡ must_hold (flow (label_of (view b) t) (label.label_of l) ∷ flow (label.label_of l) (clearance_of (view b) t) ∷ [])
-        (grant 0 [] (alter c (relabel (label.label_of l) (clearance_of (view b) t))))
+  module _ (good : good_label (next_of (view book)) true l ≡ true) where
+    judged : verdict_on book area c (set_label l)
+        ≡ must_hold (flow (label_of (view book) t) (label.label_of l) ∷ flow (label.label_of l) (clearance_of (view book) t) ∷ [])
+        (grant 0 [] (alter c (relabel (label.label_of l) (clearance_of (view book) t))))
     unfolding judge good_arguments
     judged =
-        caller_judged b area c t by (set_label l) good
+        caller_judged book area c t by (set_label l) good
         ∙ ap₂ (λ (x y : Label). must_hold (flow x (label.label_of l) ∷ flow (label.label_of l) y ∷ []) (grant 0 [] (alter c (relabel (label.label_of l) y))))
-        (caller_label b area c t by)
-        (caller_clearance b area c t by)
+        (caller_label book area c t by)
+        (caller_clearance book area c t by)
 
     -- a condition fails: 7
-    pub label_seven : (f : Refusal) → tested (flow (label_of (view b) t) (label.label_of l) ∷ flow (label.label_of l) (clearance_of (view b) t) ∷ []) ≡ Fail f
-        → Told b area (verdict_on b area c (set_label l)) f
-    label_seven f e = fail_told b area _ _ _ f judged e by.ready
+    pub label_seven : (f : Refusal) → tested (flow (label_of (view book) t) (label.label_of l) ∷ flow (label.label_of l) (clearance_of (view book) t) ∷ []) ≡ Err f
+        → (r : Result ℕ Refusal) → IsErr r × IsErrAnd r (λ e. e ≡ f) → LabelJudged b area c l r
+    label_seven f e r h = rw (sym lent) (told_on _ r h (fail_told book area _ _ _ f judged e by.ready))
 
     -- granted
-    pub to_set_label : tested (flow (label_of (view b) t) (label.label_of l) ∷ flow (label.label_of l) (clearance_of (view b) t) ∷ []) ≡ Pass
-        → ToSetLabel b area c l t 0
+    pub to_set_label : tested (flow (label_of (view book) t) (label.label_of l) ∷ flow (label.label_of l) (clearance_of (view book) t) ∷ []) ≡ passed
+        → LabelJudged b area c l (Ok t)
     to_set_label e =
-        record {
-          long = good_long (next_of (view b)) true l good;
-          relabels =
-              record {
-                granted = judged ∙ pass_on _ _ e;
-                row = caller_row b area c t by;
-                low = caller_low b area c t by;
-                label_fits = good_default (next_of (view b)) true l good;
-                clearance_fits = caller_clearance_fits b area c t by;
-              };
-        }
+        rw (sym lent) (
+          by.ready,
+          record {
+            long = good_long (next_of (view book)) true l good;
+            relabels =
+                record {
+                  granted = judged ∙ pass_on _ _ e;
+                  row = caller_row book area c t by;
+                  label_fits = good_default (next_of (view book)) true l good;
+                  clearance_fits = caller_clearance_fits book area c t by;
+                };
+          },
+        )
+
+-- what its judging needs at each way out but the granted one
+pub ruleset ways_out = (good_long, label_four, label_seven)

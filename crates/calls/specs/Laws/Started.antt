@@ -56,3 +56,6 @@ module _ (b area : List ℕ) (f : ℕ) where
           book_kept = λ z. absurd (z (granted l n));
           area_kept = λ z. absurd (z (granted l n));
         }
+
+-- what it needs at every way out
+pub ruleset ways_out = (wrong_book, wrong_area, low_first, high_first, startable_by, made)

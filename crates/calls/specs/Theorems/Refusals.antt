@@ -11,8 +11,7 @@ use Rattle.tables.specs.Layout.{view}
 use Rattle.tables.specs.Layout.Only.{view_only}
 use Rattle.book.specs.Enact.{moved_on}
 use Rattle.book.specs.Test.{areas_b}
-use Rattle.calls.specs.declared.Answer.{Answer}
-use Rattle.calls.specs.Outcome.{verdict_on, book_left, area_left, output_left, number_of, value_in, Done}
+use Rattle.calls.specs.Outcome.{verdict_on, book_left, area_left, output_left, Said}
 use Rattle.calls.specs.Laws.Prelude.{book_long, no_value}
 
 -- a verdict whose answer is not 0 is a refusal
@@ -25,21 +24,22 @@ unfolding answer_of
 refusal (refused r) n = record { why = r; is = refl }
 refusal (grant v o h) n = absurd (n refl)
 
-module _ (b area : List ℕ) (c : ℕ) (x : Call) (r : Answer) (b' area' : List ℕ) (d : Done b area c x r b' area') (not-granted : number_of r ≡ 0 → ⊥) where
+module _ (b area : List ℕ) (c : ℕ) (x : Call) (answer value : ℕ) (b' area' : List ℕ) (d : Said b area c x answer value b' area')
+    (not-granted : answer ≡ 0 → ⊥) where
   refusing : Refusing (verdict_on b area c x)
-  refusing = refusal (verdict_on b area c x) (λ e. not-granted (d.answer ∙ e))
+  refusing = refusal (verdict_on b area c x) (λ e. not-granted (d.answer_is ∙ e))
 
   verdict : verdict_on b area c x ≡ refused refusing.why
   verdict = refusing.is
 
-  its_number : number_of r ≡ kernel.number_of refusing.why
+  its_number : answer ≡ kernel.number_of refusing.why
   unfolding answer_of
-  its_number = d.answer ∙ ap answer_of verdict
+  its_number = d.answer_is ∙ ap answer_of verdict
 
   -- The value is 0.
-  pub refused_value : value_in r ≡ 0
+  pub refused_value : value ≡ 0
   unfolding value_of
-  refused_value = d.value ∙ (ap value_of verdict ∙ no_value refusing.why)
+  refused_value = d.value_is ∙ (ap value_of verdict ∙ no_value refusing.why)
 
   -- The data area is as it was,
   pub refused_area : area' ≡ area
@@ -52,7 +52,7 @@ module _ (b area : List ℕ) (c : ℕ) (x : Call) (r : Answer) (b' area' : List 
   refused_output out = ap (λ (v : Verdict). output_left v out) verdict
 
   -- after answers 1 and 2 the whole book,
-  pub stopped_book : number_of r ≤ 2 → ((k : ℕ) → get_or b k 0 < 256) → ((k : ℕ) → get_or b' k 0 < 256) → b' ≡ b
+  pub stopped_book : answer ≤ 2 → ((k : ℕ) → get_or b k 0 < 256) → ((k : ℕ) → get_or b' k 0 < 256) → b' ≡ b
   unfolding book_left
   stopped_book n bytes bytes' =
       bool_cases (areas_b b area)
@@ -62,6 +62,6 @@ module _ (b area : List ℕ) (c : ℕ) (x : Call) (r : Answer) (b' area' : List 
       (λ g. d.left.book_kept g)
 
   -- and after any other all of it but the number, which moved on by one.
-  pub refused_book : 2 < number_of r → areas_b b area ≡ true → view b' ≡ moved_on (view b)
+  pub refused_book : 2 < answer → areas_b b area ≡ true → view b' ≡ moved_on (view b)
   unfolding book_left
   refused_book n g = d.left.book_left_lem g ∙ (ap (λ (v : Verdict). book_left v (view b) area) verdict ∙ rw (lt-leb (kernel.number_of refusing.why) 2 (subst (λ k. 2 < k) its_number n)))

@@ -1,40 +1,14 @@
-use mathlib.Core.Path.{subst}
-use Rattle.calls.specs.CreateThread.{ThreadJudged}
-use Rattle.calls.specs.Laws.Creating.{creating, made_done}
-use Rattle.calls.specs.Laws.CreateThread.{thread_label_long, thread_clearance_long, thread_whole, thread_object}
-use Rattle.calls.specs.Outcome.{Means}
-use Rattle.calls.specs.Laws.Leave.{leavable}
+use Rattle.std.proofs.Common.{rules}
+use Rattle.calls.specs.Laws.CreateThread.{thread_creating, thread_done}
 use Rattle.calls.proofs.create_thread.create_thread.Goals as goal
-
-pub leave-requires : goal.leave-requires
-leave-requires c = leavable (subst (Means _ _ _ _) c.in-No.is c.judge.ensures)
-
-pub returns-in-No : goal.returns-in-No
-returns-in-No c =
-    c.leave.ensures.done _ _ _ (subst (Means _ _ _ _) c.in-No.is
-    c.judge.ensures)
-
-pub from_bytes-requires : goal.from_bytes-requires
-from_bytes-requires c =
-    let p = subst (ThreadJudged _ _ _ _ _ _ _) c.in-Go.is c.judge.ensures in
-    thread_label_long _ _ _ _ _ p.1.good
-
-pub from_bytes-requires-2 : goal.from_bytes-requires-2
-from_bytes-requires-2 c =
-    let p = subst (ThreadJudged _ _ _ _ _ _ _) c.in-Go.is c.judge.ensures in
-    thread_clearance_long _ _ _ _ _ p.1.good
 
 pub make_in-requires : goal.make_in-requires
 make_in-requires c =
-    let p = subst (ThreadJudged _ _ _ _ _ _ _) c.in-Go.is c.judge.ensures in
-    creating _ _ _ _ _ _ _ _ p.0 p.1 _ _ _
-    (thread_whole _ _ _ _ _ p.1.good _ _ _ c.new_row-row.ensures c.from_bytes.ensures
-    c.from_bytes-2.ensures)
+    let p = c.in-Ok.ensures in
+    thread_creating _ _ _ _ _ p.1.good _ _ _ c.new_row-row.ensures c.from_bytes.ensures c.from_bytes-2.ensures _ _ _ _ _ c.book_in_mut.ensures.value p.0 p.1
 
 pub returns : goal.returns
 returns c =
-    let p = subst (ThreadJudged _ _ _ _ _ _ _) c.in-Go.is c.judge.ensures in
-    made_done _ _ _ _ _ _ _ _ p.0 p.1 _ c.make_in.auto.b _ c.make_in.ensures.b_after
-    (thread_object _ _ _ _ _ p.1.good _ _ _ c.new_row-row.ensures
-    c.from_bytes.ensures c.from_bytes-2.ensures) _
-    c.make_in.ensures.value
+    let p = c.in-Ok.ensures in
+    thread_done _ _ _ _ _ p.1.good _ _ _ c.new_row-row.ensures c.from_bytes.ensures c.from_bytes-2.ensures _ _ _ _ _ c.book_in_mut.ensures.value p.0 p.1
+    _ (search rules) c.make_in.ensures.b_after _ c.make_in.ensures.value

@@ -1,13 +1,9 @@
-use Rattle.calls.specs.Laws.Leave.{can_move, left_early, left_late}
+use Rattle.std.proofs.Common.{rules}
+use Rattle.calls.specs.Laws.Leave.{left_early, left_late}
 use Rattle.calls.proofs.leave.leave.Goals as goal
 
 pub returns-then-n-le-LAST_FREE : goal.returns-then-n-le-LAST_FREE
-returns-then-n-le-LAST_FREE c = left_early _ _ _ c.number-n.ensures c.if-n-le-LAST_FREE.true
-
-pub move_on-requires : goal.move_on-requires
-move_on-requires c = can_move _ _ c.requires _ c.number-n.ensures c.if-n-le-LAST_FREE.false
+returns-then-n-le-LAST_FREE g c = left_early _ _ _ c.from-n.ensures c.if-n-le-LAST_FREE.true
 
 pub returns : goal.returns
-returns c =
-    left_late _ _ _ c.number-n.ensures c.if-n-le-LAST_FREE.false _ c.move_on.auto.b
-    c.move_on.ensures
+returns g c = left_late _ _ _ c.from-n.ensures c.if-n-le-LAST_FREE.false _ (search rules) (search rules)
