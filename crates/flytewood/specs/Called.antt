@@ -1,10 +1,10 @@
 -- What an exported function returns, writes through its pointers and leaves of what it was lent. `Called` and `Started` are the contracts of the exports, word for word, and
 -- what every statement of `histories` is about.
 use Rattle.std.specs.Prelude.{ℕ, ◌<◌, cond, ◌≡◌, List, [], get_or, take, drop, eqb}
-use Rattle.rules.specs.Kernel.{Call, Verdict, refused, grant, read, answer_of, value_of}
+use Rattle.rules.specs.Kernel.{Call, Verdict, refused, grant, read}
 use Rattle.tables.specs.Layout.{view}
 use Rattle.calls.specs.Read.{place_in}
-use Rattle.calls.specs.Outcome.{verdict_on, output_left, Left}
+use Rattle.calls.specs.Outcome.{verdict_on, output_left, Said}
 use Rattle.calls.specs.Started as calls
 
 -- what a host lends and gets back is bytes
@@ -12,12 +12,6 @@ abbrev pub Bytes : List ℕ → Type 0
 Bytes l = (k : ℕ) → get_or l k 0 < 256
 
 -- ---- a call
-
--- number, value and areas
-pub record Said (b area : List ℕ) (c : ℕ) (x : Call) (answer value : ℕ) (b' area' : List ℕ) : Type 0 where
-  pub answer_is : answer ≡ answer_of (verdict_on b area c x)
-  pub value_is : value ≡ value_of (verdict_on b area c x)
-  pub left : Left b area c x b' area'
 
 -- The call x by the thread c on the book b and the data area, with `out` lent for its output, returned `answer`, gave `value`, and left b', area' and out'. A call that is
 -- lent no output has the empty list; call 12 hands out out', a part of the data area.

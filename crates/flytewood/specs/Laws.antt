@@ -7,6 +7,7 @@ use mathlib.Core.List.{List, []}
 use Rattle.std.proofs.Math.ListN.{take}
 use Rattle.std.proofs.Math.Dec.{eqb}
 use Rattle.std.specs.Int.{w8}
+use Rattle.rules.specs.Kernel as kernel
 use Rattle.rules.specs.Kernel.{Call, Verdict, refused, grant, answer_of, value_of, output_of}
 use Rattle.rules.specs.Answers.{output_size}
 use Rattle.rules.proofs.Laws.Bools.{bool_cases}
@@ -15,12 +16,12 @@ use Rattle.tables.specs.Layout.{view}
 use Rattle.book.specs.Book.{world_of}
 use Rattle.book.specs.Test.{areas_b}
 use Rattle.calls.specs.Read.{PartAt, NoPart}
-use Rattle.calls.specs.declared.Answer.{Answer}
-use Rattle.calls.specs.Outcome.{verdict_on, output_left, number_of, value_in, Done}
+use Rattle.calls.specs.declared.Refusal.{Refusal}
+use Rattle.calls.specs.Outcome.{Answer, verdict_on, output_left, number_of, value_in, ruled, Said, Done}
 use Rattle.calls.specs.Started as calls
 use Rattle.calls.specs.Laws.Prelude.{verdict_one}
 use Rattle.calls.specs.Theorems.Kept.{verdict_is}
-use Rattle.flytewood.specs.Called.{Bytes, Said, Called, Started, place_given, count_given, ReadAs}
+use Rattle.flytewood.specs.Called.{Bytes, Called, Started, place_given, count_given, ReadAs}
 
 -- what the logic knows of a slice of bytes by its type
 abbrev pub Typed : List ℕ → Type 0
@@ -46,7 +47,7 @@ module _ (b area : List ℕ) (c : ℕ) (x : Call) (r : Answer) (b' area' : List 
     (d : Done b area c x r b' area') (book-typed : Typed b') (area-typed : Typed area') where
   -- a call that is done, spread into number and value
   said : Said b area c x answer value b' area'
-  said = record { answer_is = e ∙ d.answer; value_is = f ∙ d.value; left = d.left }
+  said = record { answer_is = e ∙ d.answer_is; value_is = f ∙ d.value_is; left = d.left }
 
   -- Calls 15 and 16: the buffer is as their contract says.
   pub with_buffer : (out out' : List ℕ) → out' ≡ output_left (verdict_on b area c x) out → Called b area c x out answer value b' area' out'
@@ -66,13 +67,13 @@ module _ (b area : List ℕ) (c : ℕ) (x : Call) (r : Answer) (b' area' : List 
 
 module _ (b area : List ℕ) (c d s k f n : ℕ) (b' : List ℕ) (book-typed : Typed b') (area-typed : Typed area) where
   -- refused
-  pub read_refused : (a : Answer) (m y : ℕ) → m ≡ number_of a → y ≡ value_in a → NoPart b area c d s k f n b' a → ReadAs b area c d s k f n m y 0 0 b' area
+  pub read_refused : (r : Refusal) (m y : ℕ) → m ≡ kernel.number_of (ruled r) → y ≡ 0 → NoPart b area c d s k f n b' r → ReadAs b area c d s k f n m y 0 0 b' area
   unfolding output_left place_given count_given
-  read_refused a m y i j x =
+  read_refused r m y i j x =
       record {
         called =
             record {
-              said = record { answer_is = i ∙ x.done.answer; value_is = j ∙ x.done.value; left = x.done.left };
+              said = record { answer_is = i ∙ x.done.answer_is; value_is = j ∙ x.done.value_is; left = x.done.left };
               output = rw x.verdict;
               book_bytes = typed_bytes b' book-typed;
               area_bytes = typed_bytes area area-typed;

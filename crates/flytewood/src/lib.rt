@@ -17,7 +17,7 @@ use calls::fix_quota::fix_quota;
 use calls::link_segment::link_segment;
 use calls::look::look;
 use calls::move_quota::move_quota;
-use calls::read::{Located, locate};
+use calls::read::locate;
 use calls::resize::resize;
 use calls::set_clearance::set_clearance;
 use calls::set_label::set_label;
@@ -38,7 +38,10 @@ pub fn fw_book_len() -> u64
 pub fn fw_start(b: &mut [u8], area: &mut [u8], first: u64) -> u64
     ensures { Started b.old area.old first result b.new area.new }
 {
-    start(b, area, first)
+    match start(b, area, first) {
+        Ok(()) => 0,
+        Err(refused) => u64::from(refused),
+    }
 }
 
 // Call 1: a new category.
@@ -329,16 +332,16 @@ pub fn fw_read(
     ensures { ReadAs b.old area.old caller d s k from count result value.new place.new length.new b.new area.new }
 {
     match locate(b, area, caller, d, s, k, from, count) {
-        Located::At(p, n) => {
+        Ok((p, n)) => {
             *value = 0;
             *place = place_given(p, n);
             *length = n as u64;
             0
         }
-        Located::Off(refused) => {
+        Err(refused) => {
             *place = 0;
             *length = 0;
-            spread(refused, value)
+            spread(Err(refused), value)
         }
     }
 }

@@ -28,11 +28,6 @@ use labels::pair::with_pair;
 use std::io;
 use tables::{BOOK_LEN, TEXT_SIZE};
 
-fn print_number(rt: &impl Print, n: u64, after: &[u8]) -> io::Result<()> {
-    rt.print(n)?;
-    rt.write_all(after)
-}
-
 fn print_line(
     rt: &impl Print,
     number: u64,
@@ -41,17 +36,13 @@ fn print_line(
     answer: u64,
     value: u64,
 ) -> io::Result<()> {
-    print_number(rt, number, b" ")?;
-    print_number(rt, caller, b" ")?;
-    print_number(rt, call, b" ")?;
-    print_number(rt, answer, b" ")?;
-    print_number(rt, value, b"\n")
+    println!(rt; "{number} {caller} {call} {answer} {value}")
 }
 
 fn print(rt: &impl Print, number: u64, caller: u64, call: u64, answer: Answer) -> io::Result<()> {
     match answer {
-        Answer::Granted(v) => print_line(rt, number, caller, call, 0, v),
-        Answer::Refused(k) => print_line(rt, number, caller, call, k, 0),
+        Ok(value) => print_line(rt, number, caller, call, 0, value),
+        Err(r) => print_line(rt, number, caller, call, u64::from(r), 0),
     }
 }
 
@@ -196,7 +187,8 @@ fn morning(
     requires { (length b.old ≡ size) × (length area.old ≡ area_size) }
     ensures { After (peopled (granted (started 100) tainted.now text.now) one.now two.now text.now) b.new area.new }
 {
-    start(b, area, 100);
+    // Both areas have their lengths, so Start cannot refuse.
+    let _ = start(b, area, 100);
     let granted = grants(rt, b, area, tainted, text);
     let grown = grows(rt, b, area, one, two, text);
     granted.and(grown)
@@ -246,8 +238,8 @@ fn main(rt: HostRuntime) -> io::Result<()> {
     let mut tainted = [0u8; LABEL_SIZE];
     into_bytes(Label::of_default(Label::LEVEL1), &mut one);
     into_bytes(Label::of_default(Label::LEVEL2), &mut two);
-    let paired = with_pair(Label::of_default(Label::LEVEL1), 102, Label::LEVEL3);
-    let label = paired.label;
+    let plain = Label::of_default(Label::LEVEL1);
+    let label = with_pair(plain, 102, Label::LEVEL3).unwrap_or(plain);
     into_bytes(label, &mut tainted);
     run(&rt, &mut book, &mut area, &one, &two, &tainted, &text)
 }

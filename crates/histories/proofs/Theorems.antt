@@ -43,7 +43,7 @@ use Rattle.flytewood.specs.Laws.{handed_out}
 use Rattle.histories.specs.Areas.{world, After, begun, called}
 use Rattle.histories.specs.Demands as the
 use Rattle.histories.specs.Unseen as two
-use Rattle.histories.proofs.Laws.Refused.{as_done, refusal}
+use Rattle.histories.proofs.Laws.Refused.{refusal}
 use Rattle.histories.proofs.Laws.Spelled.{spelled, ruled_on, ruled}
 use Rattle.histories.proofs.Laws.Alike.{not_1, told, runs, run_start, from, same_first}
 
@@ -81,11 +81,8 @@ next_as_ruled h b area a c x out answer value b' area' out' d = ruled h b area (
 
 pub one_result : the.OneOutcome
 one_result b area c x out answer₁ value₁ b₁ area₁ out₁ answer₂ value₂ b₂ area₂ out₂ p q =
-    let same =
-    one_outcome b area c x _ _ b₁ area₁ b₂ area₂ p.book_bytes q.book_bytes
-    (as_done b area c x answer₁ value₁ b₁ area₁ p.said) (as_done b area c x answer₂ value₂ b₂ area₂ q.said)
-    in
-    (p.said.answer_is ∙ sym q.said.answer_is, p.said.value_is ∙ sym q.said.value_is, same.book, same.area, p.output ∙ sym q.output)
+    let same = one_outcome b area c x b₁ area₁ b₂ area₂ p.book_bytes q.book_bytes answer₁ value₁ answer₂ value₂ p.said q.said in
+    (same.answer, same.value, same.book, same.area, p.output ∙ sym q.output)
 
 -- a Start that is granted was lent a book of the right length
 granted_long : (b area : List ℕ) (f : ℕ) → start_answer b area f ≡ 0 → length b ≡ size

@@ -16,13 +16,10 @@ use Rattle.tables.specs.Layout.Only.{view_only}
 use Rattle.book.specs.Book.{next_of, world_of}
 use Rattle.book.specs.Enact.{moved_on}
 use Rattle.book.specs.Test.{areas_b}
-use Rattle.calls.specs.declared.Answer.{Answer}
-use Rattle.calls.specs.Outcome.{verdict_on, number_of, Done}
 use Rattle.calls.specs.Laws.Prelude.{book_long, book_sound, verdict_one}
 use Rattle.calls.specs.Theorems.Kept.{verdict_is}
-use Rattle.calls.specs.Theorems.OneRead.{answer_for, number_for, value_for}
 use Rattle.calls.specs.Theorems.Refusals.{refused_value, refused_area, refused_output, stopped_book, refused_book}
-use Rattle.flytewood.specs.Called.{Bytes, Said, Called}
+use Rattle.flytewood.specs.Called.{Bytes, Called}
 use Rattle.histories.specs.Demands.{Refusal}
 
 -- ---- the book's first eight bytes
@@ -58,35 +55,10 @@ module _ (b : List ℕ) (long : length b ≡ size) where
       view_only b' (le_set 8 b 0 (le_at 8 b 0 + 1)) h' (le_set_bytes 8 b 0 (le_at 8 b 0 + 1) h) (v ∙ sym (moved_there l)) (e ∙ long)
       (le_set_length 8 b 0 (le_at 8 b 0 + 1) ∙ long)
 
--- ---- the contract with the enum of `calls` in place of number and value
-
-pub as_done : (b area : List ℕ) (c : ℕ) (x : Call) (answer value : ℕ) (b' area' : List ℕ) → Said b area c x answer value b' area'
-    → Done b area c x (answer_for (verdict_on b area c x)) b' area'
-as_done b area c x answer value b' area' s =
-    record { answer = number_for (verdict_on b area c x); value = value_for (verdict_on b area c x); left = s.left }
-
 -- ---- the refusal
 
 module _ (b area : List ℕ) (c : ℕ) (x : Call) (out : List ℕ) (answer value : ℕ) (b' area' out' : List ℕ) (h : Bytes b)
     (d : Called b area c x out answer value b' area' out') (refused : answer ≡ 0 → ⊥) where
-  r : Answer
-  r = answer_for (verdict_on b area c x)
-
-  done : Done b area c x r b' area'
-  unfolding r
-  done = as_done b area c x answer value b' area' d.said
-
-  number_is : number_of r ≡ answer
-  unfolding r
-  number_is = number_for (verdict_on b area c x) ∙ sym d.said.answer_is
-
-  refused_so : number_of r ≡ 0 → ⊥
-  refused_so e = refused (sym number_is ∙ e)
-
-  zero_value : value ≡ 0
-  unfolding r
-  zero_value = d.said.value_is ∙ (sym (value_for (verdict_on b area c x)) ∙ refused_value b area c x r b' area' done refused_so)
-
   -- 1 of bad areas, else one of the rules' numbers
   own : one_of answer (1 ∷ 2 ∷ 3 ∷ numbers_of x) ≡ true
   unfolding one_of
@@ -110,15 +82,15 @@ module _ (b area : List ℕ) (c : ℕ) (x : Call) (out : List ℕ) (answer value
       let g = good n in
       let long = book_long b area g in
       only_number b long h (omega (arith, number_there b long, (book_sound b area g).next_most)) b' d.book_bytes d.said.left.length_same
-      (refused_book b area c x r b' area' done refused_so (omega (arith, number_is)) g)
+      (refused_book b area c x answer value b' area' d.said refused n g)
 
   pub refusal : Refusal b area x out answer value b' area' out'
   refusal =
       record {
         number = own;
-        value_zero = zero_value;
-        area_same = refused_area b area c x r b' area' done refused_so;
-        output_same = d.output ∙ refused_output b area c x r b' area' done refused_so out;
-        book_same = λ n. stopped_book b area c x r b' area' done refused_so (omega (arith, number_is)) h d.book_bytes;
+        value_zero = refused_value b area c x answer value b' area' d.said refused;
+        area_same = refused_area b area c x answer value b' area' d.said refused;
+        output_same = d.output ∙ refused_output b area c x answer value b' area' d.said refused out;
+        book_same = λ n. stopped_book b area c x answer value b' area' d.said refused n h d.book_bytes;
         number_on = λ n. number_on n ∙ ap (le_set 8 b 0) (omega arith);
       }
