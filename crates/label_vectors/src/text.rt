@@ -1,4 +1,5 @@
-// Text in a buffer: each function puts it at `at`, leaves every other byte as it was, and answers where the text ends.
+// Text in a buffer: each function puts it at `at`, leaves every other byte as it was, and answers where the text ends. No String:
+// nothing here allocates.
 ghost use Rattle.std.specs.Prelude.{◌≡◌, ◌+◌, ◌*◌, ◌≤◌, ◌<◌, length};
 ghost use Rattle.label_vectors.specs.Text.{put, digit_of, hex_of, decimal_of};
 

@@ -2,7 +2,7 @@
 ghost use Rattle.std.specs.Prelude.{◌≡◌, ◌++◌, ◌+◌, ◌*◌, ◌/◌, ◌<◌, ◌≤◌, length, get_or, take, drop};
 ghost use Rattle.labels.specs.Core.{word_count, label_size, label_of, words_bytes, spelt, meant, words_in, held_in};
 
-use super::bytes::{get_words, wide};
+use super::bytes::get_words;
 use super::number::Number;
 use super::{Label, LabelRef, WORDS};
 
@@ -26,7 +26,7 @@ pub fn from_bytes(b: &[u8]) -> LabelRef
     requires { length b.now ≡ label_size }
     ensures { meant result ≡ label_of b.now }
 {
-    held(b, wide(b[0]), 1)
+    held(b, u64::from(b[0]), 1)
 }
 
 // The bytes of the words that stand in b from `from` on: none, if they would reach past the end.

@@ -22,6 +22,7 @@ pub struct Label {
 }
 
 impl Label {
+    // Codes are numbers and no enum: `level` answers what bytes spell, and they may spell 6 or 7, which no level has.
     pub const STAR: u64 = 0;
 
     pub const LEVEL0: u64 = 1;

@@ -15,6 +15,7 @@ use std::marker::PhantomData;
 
 pub const ROWS: usize = 256;
 
+// A link is a number below this: no type of the language has just these, and a struct would bring its field into each contract.
 pub const LINKS: usize = 255;
 
 pub const BLOCKS: usize = 256;
@@ -208,13 +209,13 @@ pub fn book_in(b: &[u8]) -> Option<&Book>
     b.as_array()
 }
 
-// The same bytes as a book that is written.
-pub fn book_in_mut(b: &mut [u8]) -> &mut Book
-    requires { length b.old ≡ size }
-    ensures* writes_back { sem 𝓛 (Lends (Array u8 0) (Array u8 0) b.entry result (λ w. w)) }
-    ensures value { result.now ≡ b.old }
+// The same bytes as an array that is written: a book, or a data area.
+pub fn array_in_mut<const N: usize>(bytes: &mut [u8]) -> &mut [u8; N]
+    requires { length bytes.old ≡ N }
+    ensures* writes_back { sem 𝓛 (Lends (Array u8 0) (Array u8 0) bytes.entry result (λ w. w)) }
+    ensures value { result.now ≡ bytes.old }
 {
-    let Some(w) = b.as_mut_array() else {
+    let Some(w) = bytes.as_mut_array() else {
         unreachable!()
     };
     w
