@@ -1,6 +1,7 @@
 -- Laws of the book.
 pub mod First
 pub mod Codes
+pub mod Kinds
 pub mod Tie
 pub mod WorldSound
 pub mod SoundBy

@@ -1,5 +1,6 @@
 -- The book: the world its bytes spell, soundness, and the changes on rows, links and blocks.
 pub mod Book
+pub mod Kinds
 pub mod Sound
 pub mod Laws
 pub mod Placed

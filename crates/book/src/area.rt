@@ -1,8 +1,6 @@
 // The data area's bytes.
 ghost use Rattle.std.specs.Prelude.{◌≡◌, ◌+◌, ◌≤◌, length, replicate};
-ghost use Rattle.std.specs.Borrow.{sem, Lends, Array, u8};
 ghost use Rattle.std.proofs.lemmas.List.Edits.{sets};
-ghost use Rattle.book.specs.Enact.{area_size};
 ghost use Rattle.book.specs.Resize.{cleared, block_cleared};
 
 use super::limits::BLOCK_SIZE;
@@ -11,18 +9,6 @@ use tables::Block;
 
 // RULES 1.8: ".. the data area, 16,384 bytes in 256 blocks of 64."
 pub type Area = [u8; AREA_LEN];
-
-// The same bytes as a data area that is written.
-pub fn area_in_mut(area: &mut [u8]) -> &mut Area
-    requires { length area.old ≡ area_size }
-    ensures* writes_back { sem 𝓛 (Lends (Array u8 0) (Array u8 0) area.entry result (λ w. w)) }
-    ensures value { result.now ≡ area.old }
-{
-    let Some(w) = area.as_mut_array() else {
-        unreachable!()
-    };
-    w
-}
 
 // Puts the bytes into the area from `place` on.
 #[tactic(auto, using(crate::specs::Laws::Cleared::written_run))]

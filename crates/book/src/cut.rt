@@ -7,7 +7,8 @@ ghost use Rattle.book.specs.Cut.{blocks_swept, block_swept, area_swept};
 
 use super::alter::move_on;
 use super::area::{Area, clear_block};
-use super::kinds::{CONTAINER, FREE};
+use super::find::kind_of;
+use super::kinds::{FREE, Kind};
 use super::numbers::row_of;
 use tables::{Block, Book, ID, KIND, LINK_FROM, LINK_TO, LINKS, OWNER, ROWS, Row, root};
 
@@ -22,11 +23,12 @@ fn turn_off(b: &mut Book, l: usize) -> usize
 {
     let o = LINK_TO.get(b, l);
     LINK_FROM.put(b, l, 0);
-    if KIND.get(b, o as Row) != CONTAINER {
+    if kind_of(b, o as Row) != Some(Kind::Container) {
         return l + 1;
     }
     let mut mark = o + 1;
     let mut k: usize = 0;
+    // No `for`: after a call the next link is the one that it answers.
     while k < LINKS {
         if LINK_FROM.get(b, k) == mark {
             k = turn_off(b, k);

@@ -3,10 +3,11 @@ ghost use Rattle.std.specs.Prelude.{◌≡◌, ◌<◌, length, eqb};
 ghost use Rattle.rules.specs.Kernel.{text_size};
 ghost use Rattle.tables.specs.Layout.{view, link_count};
 ghost use Rattle.book.specs.Book.{next_of, root_of, id_of, code_of, mask_of, fixed_of, quota_of, len_of, entry_of, label_of, clearance_of, description_of, closure_of, has_id, row_of};
+ghost use Rattle.book.specs.Kinds.{code_of_kind, kind_with};
 ghost use Rattle.book.specs.Find.{row_of_kind, thread_row, container_row, leads, link_between, entry_place};
 
 use super::in_place;
-use super::kinds::{CONTAINER, FREE, THREAD};
+use super::kinds::{FREE, Kind};
 use labels::Label;
 use labels::in_place::value;
 use tables::{
@@ -42,11 +43,11 @@ pub fn id_of(b: &Book, r: Row) -> u64
     ID.get(b, r)
 }
 
-// The code of the row's kind, FREE where the row is free.
-pub fn kind_of(b: &Book, r: Row) -> u8
-    ensures { result ≡ code_of (view b.now) r }
+// The kind of the row's object: none where the row is free, or its code is no kind's.
+pub fn kind_of(b: &Book, r: Row) -> Option<Kind>
+    ensures { result ≡ kind_with (code_of (view b.now) r) }
 {
-    KIND.get(b, r)
+    Kind::with_code(KIND.get(b, r))
 }
 
 pub fn mask_of(b: &Book, r: Row) -> u64
@@ -128,27 +129,27 @@ pub fn row_of(b: &Book, id: u64) -> Option<Row>
     (0..=Row::MAX).find(|&r| has_id(b, id, r))
 }
 
-// The row of the id, if its kind has this code.
-#[tactic(auto, using(crate::specs::Laws::Find::row_low), unfolding(crate::specs::Find::row_of_kind))]
-fn row_of_kind(b: &Book, kind: u8, id: u64) -> Option<Row>
-    ensures { result ≡ row_of_kind kind (view b.now) id }
+// The row of the id, if it is of this kind.
+#[tactic(auto, using(crate::specs::Laws::Kinds::kind_eq_is, crate::specs::Laws::Find::row_low), unfolding(crate::specs::Find::row_of_kind))]
+fn row_of_kind(b: &Book, kind: Kind, id: u64) -> Option<Row>
+    ensures { result ≡ row_of_kind (code_of_kind kind) (view b.now) id }
 {
     let r = row_of(b, id)?;
-    (kind_of(b, r) == kind).then_some(r)
+    (kind_of(b, r) == Some(kind)).then_some(r)
 }
 
 // The row of the id, if it is a thread's.
 pub fn thread_of(b: &Book, id: u64) -> Option<Row>
     ensures { result ≡ thread_row (view b.now) id }
 {
-    row_of_kind(b, THREAD, id)
+    row_of_kind(b, Kind::Thread, id)
 }
 
 // The row of the id, if it is a container's.
 pub fn container_of(b: &Book, id: u64) -> Option<Row>
     ensures { result ≡ container_row (view b.now) id }
 {
-    row_of_kind(b, CONTAINER, id)
+    row_of_kind(b, Kind::Container, id)
 }
 
 // ---- by links

@@ -7,6 +7,8 @@ ghost use Rattle.book.specs.Book.{label_of, clearance_of};
 use labels::{LabelRef, WORDS};
 use tables::{Book, CLEAR_DEFAULT, CLEAR_WORDS, LABEL_DEFAULT, LABEL_WORDS, Row};
 
+// Two functions: one over any two tables would have to ask of these what the constants show.
+
 #[tactic(auto, using(labels::specs::Core::InPlace::meant_is))]
 pub fn label_of(b: &Book, r: Row) -> LabelRef
     ensures { meant result ≡ label_of (view b.now) r }

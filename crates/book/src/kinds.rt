@@ -1,19 +1,47 @@
-// The codes of the kinds and the largest mask, each named here alone.
+// The kinds with their codes, and the largest mask, each named here alone.
 ghost use Rattle.std.specs.Prelude.{◌≡◌};
 ghost use Rattle.book.specs.Book.{is_thread_or_gate};
+ghost use Rattle.book.specs.Kinds.{kind_with};
 
 // In place of a kind's code where the row is free.
 pub const FREE: u8 = 0;
 
 // RULES 1.1: "An object is of one of four kinds, each with a code: thread (1), gate (2), segment (3),
 // container (4)."
-pub const THREAD: u8 = 1;
+#[derive(Clone, Copy, PartialEq, Eq)]
+pub enum Kind {
+    Thread = 1,
+    Gate = 2,
+    Segment = 3,
+    Container = 4,
+}
 
-pub const GATE: u8 = 2;
+impl From<Kind> for u8 {
+    ghost use Rattle.std.specs.Prelude.{◌≡◌};
+    ghost use Rattle.book.specs.Kinds.{code_of_kind};
 
-pub const SEGMENT: u8 = 3;
+    ghost from_gives = { λ kind code. code ≡ code_of_kind kind };
 
-pub const CONTAINER: u8 = 4;
+    fn from(kind: Kind) -> u8 {
+        kind as u8
+    }
+}
+
+impl Kind {
+    // The kind that has this code, if one has it.
+    #[tactic(auto, unfolding(crate::specs::Kinds::kind_with))]
+    pub fn with_code(code: u8) -> Option<Kind>
+        ensures { result ≡ kind_with code }
+    {
+        match code {
+            1 => Some(Kind::Thread),
+            2 => Some(Kind::Gate),
+            3 => Some(Kind::Segment),
+            4 => Some(Kind::Container),
+            _ => None,
+        }
+    }
+}
 
 // RULES 1.6: "A container also has a mask, a number from 0 to 15 that forbids kinds: .."
 pub const MAX_MASK: u8 = 15;
@@ -22,5 +50,5 @@ pub const MAX_MASK: u8 = 15;
 pub fn thread_or_gate(code: u8) -> bool
     ensures { result ≡ is_thread_or_gate code }
 {
-    code <= GATE
+    code <= u8::from(Kind::Gate)
 }

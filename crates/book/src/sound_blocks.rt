@@ -8,9 +8,10 @@ ghost use Rattle.book.specs.Book.{code_of, len_of, owner_of, blocks_of};
 ghost use Rattle.book.specs.Test.{every, owned_b, block_b, needed_blocks, blocks_b};
 ghost use Rattle.book.specs.Seen.{number_of, Offsets, Seen};
 
-use super::kinds::SEGMENT;
+use super::find::kind_of;
+use super::kinds::Kind;
 use super::numbers::{blocks_of, row_of};
-use tables::{BLOCKS, Block, Book, INDEX, KIND, LEN, OWNER, ROWS, Row};
+use tables::{BLOCKS, Block, Book, INDEX, LEN, OWNER, ROWS, Row};
 
 // ---- how many
 
@@ -23,11 +24,11 @@ fn used(b: &Book, i: Block) -> usize
 }
 
 // The blocks that row r needs: none, if it is no segment.
-#[tactic(auto, unfolding(quotas::specs::Sum::when))]
+#[tactic(auto, using(crate::specs::Laws::Kinds::kind_eq_is), unfolding(quotas::specs::Sum::when))]
 fn needed(b: &Book, r: Row) -> usize
     ensures { (result ≡ when (eqb (code_of (view b.now) r) segment_code) (blocks_of (len_of (view b.now) r))) × (result < 1025) }
 {
-    if KIND.get(b, r) == SEGMENT {
+    if kind_of(b, r) == Some(Kind::Segment) {
         blocks_of(LEN.get(b, r))
     } else {
         0
@@ -50,7 +51,7 @@ fn place(b: &Book, offsets: &mut [u16; ROWS]) -> usize
     sum
 }
 
-#[tactic(auto, unfolding(crate::specs::Test::owned_b))]
+#[tactic(auto, using(crate::specs::Laws::Kinds::kind_eq_is), unfolding(crate::specs::Test::owned_b))]
 fn owned(b: &Book, i: Block) -> bool
     requires { (owner_of (view b.now) i ≡ 0 → ⊥) }
     ensures { result ≡ owned_b (view b.now) i }
@@ -58,7 +59,8 @@ fn owned(b: &Book, i: Block) -> bool
     let Ok(owner) = Row::try_from(OWNER.get(b, i) - 1) else {
         return false;
     };
-    KIND.get(b, owner) == SEGMENT && usize::from(INDEX.get(b, i)) < blocks_of(LEN.get(b, owner))
+    kind_of(b, owner) == Some(Kind::Segment)
+        && usize::from(INDEX.get(b, i)) < blocks_of(LEN.get(b, owner))
 }
 
 fn number(b: &Book, offsets: &[u16; ROWS], i: Block) -> usize

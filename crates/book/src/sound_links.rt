@@ -6,7 +6,8 @@ ghost use Rattle.book.specs.Sound.{links_to, charged_to};
 ghost use Rattle.book.specs.Test.{every, mask_n, ends_b, link_b, same_b, once_b, tied_n, fits_n, tie_b, rows_b, links_b};
 ghost use Rattle.book.specs.Tally.{links_below, tally_b, Tallied};
 
-use super::kinds::{CONTAINER, FREE, SEGMENT};
+use super::find::kind_of;
+use super::kinds::{FREE, Kind};
 use super::limits::ROOT_QUOTA;
 use super::numbers::{blocks_of, row_of};
 use super::sound_rows::id_absent;
@@ -15,14 +16,14 @@ use tables::{Book, FIXED, ID, KIND, LEN, LINK_FROM, LINK_TO, LINKS, MASK, QUOTA,
 // ---- where a link leads
 
 // The masks of a link's container and object, the latter of this kind.
-#[tactic(auto, unfolding(crate::specs::Test::mask_n))]
+#[tactic(auto, using(crate::specs::Laws::Kinds::kind_eq_is), unfolding(crate::specs::Test::mask_n))]
 fn mask(outer: u8, code: u8, inner: u8) -> bool
     ensures { result ≡ mask_n outer code inner }
 {
-    code != CONTAINER || inner | outer == inner
+    Kind::with_code(code) != Some(Kind::Container) || inner | outer == inner
 }
 
-#[tactic(auto, unfolding(crate::specs::Test::ends_b))]
+#[tactic(auto, using(crate::specs::Laws::Kinds::kind_eq_is), unfolding(crate::specs::Test::ends_b))]
 fn ends_ok(b: &Book, l: usize) -> bool
     requires { (l < link_count) × (mark_of (view b.now) l ≡ 0 → ⊥) }
     ensures { result ≡ ends_b (view b.now) l }
@@ -34,7 +35,9 @@ fn ends_ok(b: &Book, l: usize) -> bool
         return false;
     };
     let code = KIND.get(b, to);
-    KIND.get(b, from) == CONTAINER && code != FREE && mask(MASK.get(b, from), code, MASK.get(b, to))
+    kind_of(b, from) == Some(Kind::Container)
+        && code != FREE
+        && mask(MASK.get(b, from), code, MASK.get(b, to))
 }
 
 #[tactic(auto, unfolding(crate::specs::Test::link_b))]
@@ -116,26 +119,27 @@ fn tally(b: &Book, counts: &mut [u8; ROWS], charges: &mut [u16; ROWS]) -> bool
 
 // ---- how a row is linked
 
-#[tactic(auto, unfolding(crate::specs::Test::tied_n))]
+#[tactic(auto, using(crate::specs::Laws::Kinds::kind_eq_is), unfolding(crate::specs::Test::tied_n))]
 fn tied(is_root: bool, code: u8, fixed: u8, q: u16, n: u8) -> bool
     ensures { result ≡ tied_n is_root code fixed q n }
 {
+    let kind = Kind::with_code(code);
     if is_root {
-        return code == CONTAINER && q == ROOT_QUOTA && n == 0;
+        return kind == Some(Kind::Container) && q == ROOT_QUOTA && n == 0;
     }
-    if code == SEGMENT && fixed == 1 {
+    if kind == Some(Kind::Segment) && fixed == 1 {
         return 1 <= n;
     }
     n == 1
 }
 
-#[tactic(auto, using(crate::specs::Laws::Judged::less_is), unfolding(crate::specs::Test::fits_n, rules::specs::Kernel::units))]
+#[tactic(auto, using(crate::specs::Laws::Judged::less_is), unfolding(crate::specs::Kinds::kind_with, crate::specs::Test::fits_n, rules::specs::Kernel::units))]
 fn fits(code: u8, q: u16, n: u16, u: u16) -> bool
     ensures { result ≡ fits_n code q n u }
 {
-    match code {
-        CONTAINER => u < q,
-        SEGMENT => blocks_of(n) < usize::from(q),
+    match Kind::with_code(code) {
+        Some(Kind::Container) => u < q,
+        Some(Kind::Segment) => blocks_of(n) < usize::from(q),
         _ => true,
     }
 }
@@ -167,6 +171,7 @@ pub fn links_ok(b: &Book) -> bool
     requires { (rows_b (view b.now) ≡ true) }
     ensures { result ≡ links_b (view b.now) }
 {
+    // Two arrays, since one of pairs would take 256 bytes of stack more.
     let mut counts = [0u8; ROWS];
     let mut charges = [0u16; ROWS];
     tally(b, &mut counts, &mut charges)

@@ -8,7 +8,7 @@ ghost use Rattle.book.specs.Marks.{mark_count, mark_bytes, mark_place, mark_at, 
 
 use super::find::has_id;
 use super::in_place::{clearance_of, label_of};
-use super::kinds::{CONTAINER, FREE, MAX_MASK, SEGMENT, thread_or_gate};
+use super::kinds::{FREE, Kind, MAX_MASK, thread_or_gate};
 use super::limits::{LAST_NUMBER, MAX_LENGTH, ROOT_QUOTA};
 use labels::compare::compare_two;
 use labels::form::well_formed;
@@ -25,16 +25,16 @@ const MARK_BYTES: usize = MARKS / 8 + 1;
 // One past the last number.
 const NEXT_MOST: u64 = LAST_NUMBER + 1;
 
-#[tactic(auto, unfolding(crate::specs::Test::range_n))]
+#[tactic(auto, unfolding(crate::specs::Kinds::kind_with, crate::specs::Test::range_n))]
 fn range(code: u8, q: u16, n: u16, fixed: u8, mask: u8) -> bool
     ensures { result ≡ range_n code q n fixed mask }
 {
     if thread_or_gate(code) {
         return q == 1;
     }
-    let holds = match code {
-        SEGMENT => n <= MAX_LENGTH && fixed <= 1,
-        CONTAINER => mask <= MAX_MASK,
+    let holds = match Kind::with_code(code) {
+        Some(Kind::Segment) => n <= MAX_LENGTH && fixed <= 1,
+        Some(Kind::Container) => mask <= MAX_MASK,
         _ => false,
     };
     1 <= q && q <= ROOT_QUOTA && holds

@@ -6,7 +6,7 @@ ghost use Rattle.book.specs.Enact.{start_view, start_area};
 ghost use Rattle.book.specs.Make.{root_row, thread_row, root_made, thread_made};
 
 use super::area::{Area, clear_all};
-use super::kinds::{CONTAINER, THREAD};
+use super::kinds::Kind;
 use super::limits::ROOT_QUOTA;
 use super::make::{NewRow, fill_link, fill_row};
 use labels::Label;
@@ -17,7 +17,7 @@ fn root_row() -> NewRow
     ensures { result ≡ root_row }
 {
     NewRow {
-        kind: CONTAINER,
+        kind: Kind::Container,
         mask: 0,
         quota: ROOT_QUOTA,
         entry: 0,
@@ -30,7 +30,7 @@ fn thread_row() -> NewRow
     ensures { result ≡ thread_row }
 {
     NewRow {
-        kind: THREAD,
+        kind: Kind::Thread,
         mask: 0,
         quota: 1,
         entry: 0,

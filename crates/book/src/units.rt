@@ -7,7 +7,7 @@ ghost use Rattle.book.specs.Sound.{Live, Sound, charged_to};
 ghost use Rattle.book.specs.Units.{charge_of, use_at, spare_at};
 
 use super::find::{kind_of, len_of};
-use super::kinds::{CONTAINER, SEGMENT};
+use super::kinds::Kind;
 use super::limits::{BLOCK_SIZE, ROUND_UP};
 use tables::{Book, LINK_FROM, LINK_TO, LINKS, QUOTA, Row};
 
@@ -24,6 +24,8 @@ pub fn units(n: u64) -> u64
 {
     1 + (n + UP) / BLOCK
 }
+
+// That the book is sound is said of it here, not by a type: it is so between calls and not within one.
 
 // What link l charges the container at row c with.
 #[tactic(auto, unfolding(quotas::specs::Sum::when))]
@@ -51,14 +53,14 @@ fn charged(b: &Book, c: Row) -> u64
 }
 
 // What the object at row r uses.
-#[tactic(auto, unfolding(crate::specs::Units::use_at))]
+#[tactic(auto, unfolding(crate::specs::Kinds::kind_with, crate::specs::Units::use_at))]
 pub fn use_of(b: &Book, r: Row) -> u64
     requires { Sound (view b.now) × Live (view b.now) r }
     ensures { result ≡ use_at (view b.now) r }
 {
     match kind_of(b, r) {
-        CONTAINER => 1 + charged(b, r),
-        SEGMENT => units(len_of(b, r)),
+        Some(Kind::Container) => 1 + charged(b, r),
+        Some(Kind::Segment) => units(len_of(b, r)),
         _ => 1,
     }
 }

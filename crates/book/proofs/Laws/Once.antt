@@ -12,7 +12,7 @@ use Rattle.book.specs.Book.{root_of, mark_of, to_of, live_link, has_id}
 use Rattle.book.specs.Sound.{links_to, charged_to}
 use Rattle.book.specs.Test.{every, link_b, same_b, once_b, tie_b, links_b}
 use Rattle.book.specs.Tally.{links_below, tally_b}
-use Rattle.book.specs.Laws.Tests.{and_fails, every_fails}
+use Rattle.book.specs.Laws.Tests.{and_l, and_r, and_fails, every_fails}
 use Rattle.book.specs.Laws.Judged.{any_every}
 use Rattle.book.specs.Laws.MeansLinks.{counted, once_by}
 use Rattle.book.proofs.Laws.Seen.{sum_below}
@@ -62,6 +62,14 @@ module _ (v : View) where
   unfolding tally_b
   tally_all i e h k = rw (sym (ap (λ (x : ℕ). every x (link_b v)) e) ∙ h) (sym (ap (λ (x : ℕ). every x (once_b v (links_to v))) e) ∙ k)
 
+  pub tally_links : tally_b v ≡ true → every link_count (link_b v) ≡ true
+  unfolding tally_b
+  tally_links h = and_l (every link_count (link_b v)) _ h
+
+  pub tally_once : tally_b v ≡ true → every link_count (once_b v (links_to v)) ≡ true
+  unfolding tally_b
+  tally_once h = and_r (every link_count (link_b v)) _ h
+
   -- The test of links is the pass, the ties, and that the root's id, o, is not absent.
   pub links_are : (o : ℕ) → o ≡ root_of v
       → links_b v ≡ (tally_b v && (every row_count (λ r. tie_b v r (links_to v r) (charged_to v r)) && not (every row_count (λ r. not (has_id v o r)))))
@@ -76,3 +84,7 @@ module _ (v : View) where
       parts true false true r = refl
       parts true false false r = refl
       parts false t b r = refl
+
+  -- What the pass refuses is not sound.
+  pub tally_fails : tally_b v ≡ false → links_b v ≡ false
+  tally_fails h = links_are (root_of v) refl ∙ rw h

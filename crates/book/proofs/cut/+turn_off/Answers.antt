@@ -3,8 +3,10 @@ use native.Mathlib.Omega.{arith}
 use mathlib.Core.Path.{◌≡◌, refl, sym, ◌∙◌, ap, subst}
 use mathlib.Core.List.{List}
 use Rattle.tables.specs.Layout.{View, view, link_from_t, put_t}
-use Rattle.book.specs.Book.{to_of}
+use Rattle.book.specs.declared.kinds.Kind.TheVariants.{Container}
+use Rattle.book.specs.Book.{code_of, to_of}
 use Rattle.book.specs.Cut.{Linked}
+use Rattle.book.specs.Laws.Kinds.{kind_same, kind_other}
 use Rattle.book.specs.Laws.CutSteps.{live_links, Sofar, begun, links_fall, object_kept, code_read, all_done, next_linked, next_turned, next_skipped}
 use Rattle.book.proofs.cut.+turn_off.Goals as goal
 use Rattle.book.proofs.cut.+turn_off.Goals.{After-get-mark}
@@ -16,9 +18,10 @@ turned t c e ok q =
     let l = c.loop-k in
     let o = c.get-o in
     let gone = c.turn_off-k in
-    let mark = c.get-in-loop-k in
+    let mark = c.get in
     let eo = o.ensures ∙ ap (λ (x : View). to_of x c.args.l) (sym c.put.ensures ∙ q) in
-    let con = code_read e c.args.l ok c.put.new.b o.result c.get.result q eo c.get.ensures ∙ c.if-get-ne-CONTAINER.false in
+    let code = kind_same c.kind_of.result (code_of (view c.put.new.b) o.result) Container c.kind_of.ensures (sym c.ne.ensures ∙ c.if-ne.false) in
+    let con = code_read e c.args.l ok c.put.new.b o.result (code_of (view c.put.new.b) o.result) q eo refl ∙ code in
     next_turned e c.args.l ok l.b l.k (l.invariant.3 e ok q) mark.result mark.ensures c.loop-k-test.true o.result
     (c.if-get-mark.true ∙ l.invariant.2) eo con (view gone.new.b) gone.ensures.unlinked
 
@@ -29,12 +32,13 @@ same_mark t c =
     ∙ object_kept c.args.b.now c.args.l c.requires c.turn_off-k.new.b (c.loop-k.k + 1) (turned t c c.args.b.now c.requires c.put.ensures)
     ∙ sym c.get-o.ensures
 
-pub returns-then-get-ne-CONTAINER-clause-unlinked : goal.returns-then-get-ne-CONTAINER-clause-unlinked
-returns-then-get-ne-CONTAINER-clause-unlinked t c =
+pub returns-then-ne-clause-unlinked : goal.returns-then-ne-clause-unlinked
+returns-then-ne-clause-unlinked t c =
     let a = c.args in
     let off = c.put in
-    let con = code_read a.b.now a.l c.requires off.new.b c.get-o.result c.get.result off.ensures c.get-o.ensures c.get.ensures in
-    all_done a.b.now a.l c.requires off.new.b 0 (begun a.b.now a.l c.requires off.new.b off.ensures) (λ q. absurd (c.if-get-ne-CONTAINER.true (sym con ∙ q)))
+    let con = code_read a.b.now a.l c.requires off.new.b c.get-o.result (code_of (view off.new.b) c.get-o.result) off.ensures c.get-o.ensures refl in
+    let other = kind_other c.kind_of.result (code_of (view off.new.b) c.get-o.result) Container c.kind_of.ensures (sym c.ne.ensures ∙ c.if-ne.true) in
+    all_done a.b.now a.l c.requires off.new.b 0 (begun a.b.now a.l c.requires off.new.b off.ensures) (λ q. absurd (other (sym con ∙ q)))
 
 pub loop-k-init : goal.loop-k-init
 loop-k-init t c =
@@ -43,7 +47,7 @@ loop-k-init t c =
 pub turn_off-k-requires : goal.turn_off-k-requires
 turn_off-k-requires t c =
     let l = c.loop-k in
-    let mark = c.get-in-loop-k in
+    let mark = c.get in
     let sofar = l.invariant.3 c.args.b.now c.requires c.put.ensures in (
       subst (λ (x : ℕ). live_links (view l.b) < x) c.decreases (links_fall c.args.b.now c.args.l c.requires l.b l.k sofar),
       next_linked c.args.b.now c.args.l c.requires l.b l.k sofar mark.result mark.ensures
@@ -64,7 +68,7 @@ loop-k-preserved-then-get-mark t c =
 pub loop-k-preserved : goal.loop-k-preserved
 loop-k-preserved t c =
     let l = c.loop-k in
-    let mark = c.get-in-loop-k in
+    let mark = c.get in
     let o = c.get-o in (
       l.invariant.0,
       omega (arith, c.loop-k-test.true),
