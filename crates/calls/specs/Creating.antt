@@ -3,17 +3,25 @@
 use Rattle.std.specs.Prelude.{ℕ, true, not, ◌≡◌, List, [], ◌∷◌, leb, ⊤, Result, Ok, Some}
 use Rattle.std.specs.Result.{result_and}
 use Rattle.labels.specs.declared.Label.{Label}
+use Rattle.labels.specs.Core as core
+use Rattle.labels.specs.Core.{meant}
 use Rattle.rules.specs.Kernel.{Obj, Condition, Call, good_arguments, kind_code, flow, writing, grant, create}
 use Rattle.tables.specs.Layout.{View, view}
 use Rattle.book.specs.Book.{next_of, label_of}
 use Rattle.book.specs.Find.{container_row}
 use Rattle.book.specs.Units.{spare_at}
 use Rattle.calls.specs.declared.Refusal.{Refusal}
+use Rattle.calls.specs.declared.creating.NewLabels.{NewLabels}
 use Rattle.calls.specs.declared.Refusal.TheVariants.{MaskForbids, NoSpare}
 use Rattle.calls.specs.Outcome.{verdict_on}
 use Rattle.calls.specs.Conditions.{tested}
 use Rattle.calls.specs.Tested.{test}
 use Rattle.calls.specs.Masks.{forbids_at}
+
+-- the label and the clearance of a new object are those that are lent
+pub record LentPair (l k : List ℕ) (x : NewLabels) : Type 0 where
+  pub label : meant x.label ≡ core.label_of l
+  pub clearance : meant x.clearance ≡ core.label_of k
 
 -- ---- the label conditions beside writing D, of a thread with label m and clearance k
 

@@ -21,6 +21,7 @@ pub mod Look
 pub mod Access
 pub mod Resize
 pub mod Amount
+pub mod Arguments
 pub mod MoveQuota
 pub mod EnterGate
 pub mod Part

@@ -1,12 +1,16 @@
 -- Call 11: the object whose quota is to be moved.
-use Rattle.std.specs.Prelude.{ℕ, ◌≤◌, Bool, false, cond, ◌≡◌, List, [], eqb, ℤ, Result, Some}
-use Rattle.rules.specs.Kernel.{segment_code, grant, move_quota, alter, requota, root_quota}
+use Rattle.std.specs.Prelude.{ℕ, ◌≤◌, Bool, false, cond, ◌||◌, ◌≡◌, List, [], eqb, ℤ, Result, Some}
+use Rattle.rules.specs.Kernel.{segment_code, container_code, grant, move_quota, alter, requota, root_quota}
 use Rattle.tables.specs.Layout.{View, view}
 use Rattle.book.specs.Book.{code_of, fixed_of, quota_of, row_of}
 use Rattle.calls.specs.declared.amount.Amount.{Amount}
 use Rattle.calls.specs.declared.Refusal.{Refusal}
 use Rattle.calls.specs.Amount.{quota_for, Reckoned}
 use Rattle.calls.specs.Outcome.{verdict_on, Means}
+
+-- the object at row r is a segment or a container
+abbrev pub movable : View → ℕ → Bool
+movable v r = eqb (code_of v r) segment_code || eqb (code_of v r) container_code
 
 -- the quota of the object at row r is fixed; the mark of a row that is no segment's is not looked at
 unfoldable pub is_fixed : View → ℕ → Bool

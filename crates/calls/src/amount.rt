@@ -13,23 +13,20 @@ pub enum Amount {
 }
 
 // RULES 8.11: "4 unless n is from -256 to 256."
-const MAX_MOVE: i64 = 256;
+const MAX_MOVE: u64 = 256;
 
-const MIN_MOVE: i64 = -MAX_MOVE;
+impl TryFrom<i64> for Amount {
+    type Error = Refusal;
 
-pub fn units_of(n: i64) -> Result<Amount, Refusal>
-    ensures { result ≡ amount_of n }
-{
-    if n < 0 {
-        if n < MIN_MOVE {
+    ghost try_from_gives = { λ n r. r ≡ amount_of n };
+
+    fn try_from(n: i64) -> Result<Amount, Refusal> {
+        let m = n.unsigned_abs();
+        if MAX_MOVE < m {
             return Err(Refusal::BadArgument);
         }
-        return Ok(Amount::Out((0 - n) as u64));
+        Ok(if n < 0 { Amount::Out(m) } else { Amount::In(m) })
     }
-    if MAX_MOVE < n {
-        return Err(Refusal::BadArgument);
-    }
-    Ok(Amount::In(n as u64))
 }
 
 // The quota that q becomes.

@@ -12,7 +12,7 @@ use super::{Answer, Refusal};
 use book::find::{clearance_of, label_of, next_of};
 use labels::Label;
 use labels::pair::with_pair;
-use tables::{Row, book_in_mut};
+use tables::{Row, array_in_mut};
 
 // The clearance with level 3 at the category n: no pair if its default is that.
 #[tactic(auto, unfolding(rules::specs::Kernel::cleared_at))]
@@ -46,7 +46,7 @@ pub fn create_category(b: &mut [u8], area: &mut [u8], caller: u64) -> Answer
         Ok(taken) => taken,
         Err(r) => return leave(b, r),
     };
-    let book = book_in_mut(b);
+    let book = array_in_mut(b);
     let n = next_of(book);
     take_labels(book, t, owned, clear);
     Ok(n)

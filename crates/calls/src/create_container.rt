@@ -1,22 +1,24 @@
 // Call 4: a container created in a container.
 ghost use Rattle.std.specs.Prelude.{false, ◌&&◌, ◌≡◌, ◌<◌, ◌≤◌, leb};
 ghost use Rattle.std.specs.Int.Bits.{bit_or};
+ghost use Rattle.labels.specs.Core.{label_of, meant};
 ghost use Rattle.rules.specs.Kernel.{good_label, good_text, max_mask, max_quota, create_container};
+ghost use Rattle.calls.specs.Arguments.{LentIf};
 ghost use Rattle.calls.specs.Outcome.{Done};
 ghost use Rattle.calls.specs.CreateContainer.{container_row_of, ContainerJudged};
 
-use super::arguments::{good_label, good_text};
+use super::arguments::{good_text, lent_label};
 use super::begin::begin;
 use super::creating::{MAX_QUOTA, admit, make_in, or_default, plain_allowed};
 use super::leave::leave;
 use super::lookup::open_container;
 use super::{Answer, Refusal};
 use book::find::{mask_of, next_of};
-use book::kinds::{CONTAINER, MAX_MASK};
+use book::kinds::{Kind, MAX_MASK};
 use book::make::NewRow;
-use labels::Label;
-use labels::bytes::from_bytes;
-use tables::{Row, TEXT_SIZE, book_in_mut};
+use labels::in_place::value;
+use labels::{Label, LabelRef};
+use tables::{Row, TEXT_SIZE, array_in_mut};
 
 // The largest mask, as wide as the one that is lent.
 const MASK_MOST: u64 = MAX_MASK as u64;
@@ -24,13 +26,18 @@ const MASK_MOST: u64 = MAX_MASK as u64;
 // RULES 3.7: ".. 0 stands for a default: 8 for a container, 5 for a segment."
 const DEFAULT_QUOTA: u64 = 8;
 
-fn good_arguments(next: u64, label: &[u8], description: &[u8], mask: u64, quota: u64) -> bool
-    ensures { result ≡ (good_label next false label.now && (good_text description.now && (leb mask max_mask && leb quota max_quota))) }
+// The label of the container, if all that is lent for it is as it should be.
+fn new_label<'a>(
+    next: u64,
+    label: &'a [u8],
+    description: &[u8],
+    mask: u64,
+    quota: u64,
+) -> Option<LabelRef<'a>>
+    ensures { LentIf (good_label next false label.now && (good_text description.now && (leb mask max_mask && leb quota max_quota))) (λ l. meant l ≡ label_of label.now) result }
 {
-    good_label(label, next, false)
-        && good_text(description)
-        && mask <= MASK_MOST
-        && quota <= MAX_QUOTA
+    let new = lent_label(label, next, false)?;
+    (good_text(description) && mask <= MASK_MOST && quota <= MAX_QUOTA).then_some(new)
 }
 
 #[tactic(auto, using(crate::specs::Laws::CreateContainer::ways_out))]
@@ -43,17 +50,17 @@ fn judge(
     description: &[u8],
     mask: u64,
     quota: u64,
-) -> Result<Row, Refusal>
+) -> Result<(Row, Label), Refusal>
     ensures { ContainerJudged b.now area.now caller d label.now description.now mask quota result }
 {
     let (book, t) = begin(b, area, caller)?;
-    if !good_arguments(next_of(book), label, description, mask, quota) {
-        return Err(Refusal::BadArgument);
-    }
+    let lent = new_label(next_of(book), label, description, mask, quota);
+    let new = lent.ok_or(Refusal::BadArgument)?;
     let container = open_container(book, t, d)?;
-    let allowed = plain_allowed(book, t, label);
+    let allowed = plain_allowed(book, t, new);
     let units = or_default(quota, DEFAULT_QUOTA);
-    admit(book, t, container, CONTAINER, units, allowed)
+    let c = admit(book, t, container, Kind::Container, units, allowed)?;
+    Ok((c, value(new)))
 }
 
 // RULES 8.4: "The new mask has the bits given and those of D's mask."
@@ -70,7 +77,7 @@ fn new_row(label: Label, mask: u64, quota: u64) -> NewRow
     ensures { result ≡ container_row_of label mask quota }
 {
     NewRow {
-        kind: CONTAINER,
+        kind: Kind::Container,
         mask: mask as u8,
         quota: quota as u16,
         entry: 0,
@@ -92,13 +99,13 @@ pub fn create_container(
 ) -> Answer
     ensures { Done b.old area.old caller (create_container d label.now description.now mask quota) result b.new area.new }
 {
-    let c = match judge(b, area, caller, d, label, description, mask, quota) {
-        Ok(c) => c,
+    let (c, new) = match judge(b, area, caller, d, label, description, mask, quota) {
+        Ok(p) => p,
         Err(r) => return leave(b, r),
     };
-    let book = book_in_mut(b);
+    let book = array_in_mut(b);
     let all = joined(mask, mask_of(book, c));
-    let row = new_row(from_bytes(label), all, or_default(quota, DEFAULT_QUOTA));
+    let row = new_row(new, all, or_default(quota, DEFAULT_QUOTA));
     let closure = [0u8; TEXT_SIZE];
     Ok(make_in(book, c, row, description, &closure))
 }

@@ -1,38 +1,40 @@
 // Call 6: a gate created in a container.
 ghost use Rattle.std.specs.Prelude.{true, false, ◌&&◌, ◌≡◌};
 ghost use Rattle.rules.specs.Kernel.{good_label, good_text, create_gate};
+ghost use Rattle.calls.specs.Arguments.{LentIf};
 ghost use Rattle.calls.specs.Outcome.{Done};
+ghost use Rattle.calls.specs.Creating.{LentPair};
 ghost use Rattle.calls.specs.CreateGate.{gate_row_of, GateJudged};
 
-use super::arguments::{good_label, good_text};
+use super::arguments::{good_text, lent_label};
 use super::begin::begin;
-use super::creating::{admit, cleared_allowed, make_in};
+use super::creating::{NewLabels, admit, cleared_allowed, make_in};
 use super::leave::leave;
 use super::lookup::open_container;
 use super::{Answer, Refusal};
 use book::find::next_of;
-use book::kinds::GATE;
+use book::kinds::Kind;
 use book::make::NewRow;
 use labels::Label;
-use labels::bytes::from_bytes;
-use tables::{Row, book_in_mut};
+use labels::in_place::value;
+use tables::{Row, array_in_mut};
 
 // RULES 8.6: "As 8.4, with quota 1."
 const QUOTA: u64 = 1;
 
-fn good_arguments(
+// The labels of the gate, if all that is lent for it is as it should be.
+fn new_labels<'a>(
     next: u64,
-    label: &[u8],
-    clearance: &[u8],
+    label: &'a [u8],
+    clearance: &'a [u8],
     closure: &[u8],
     description: &[u8],
-) -> bool
-    ensures { result ≡ (good_label next true label.now && (good_label next false clearance.now && (good_text closure.now && good_text description.now))) }
+) -> Option<NewLabels<'a>>
+    ensures { LentIf (good_label next true label.now && (good_label next false clearance.now && (good_text closure.now && good_text description.now))) (LentPair label.now clearance.now) result }
 {
-    good_label(label, next, true)
-        && good_label(clearance, next, false)
-        && good_text(closure)
-        && good_text(description)
+    let label = lent_label(label, next, true)?;
+    let clearance = lent_label(clearance, next, false)?;
+    (good_text(closure) && good_text(description)).then_some(NewLabels { label, clearance })
 }
 
 // The entry number may be any, so no test looks at it.
@@ -47,23 +49,23 @@ fn judge(
     number: u64,
     closure: &[u8],
     description: &[u8],
-) -> Result<Row, Refusal>
+) -> Result<(Row, Label, Label), Refusal>
     ensures { GateJudged b.now area.now caller d label.now clearance.now number closure.now description.now result }
 {
     let (book, t) = begin(b, area, caller)?;
-    if !good_arguments(next_of(book), label, clearance, closure, description) {
-        return Err(Refusal::BadArgument);
-    }
+    let lent = new_labels(next_of(book), label, clearance, closure, description);
+    let new = lent.ok_or(Refusal::BadArgument)?;
     let container = open_container(book, t, d)?;
-    let allowed = cleared_allowed(book, t, label, clearance);
-    admit(book, t, container, GATE, QUOTA, allowed)
+    let allowed = cleared_allowed(book, t, new.label, new.clearance);
+    let c = admit(book, t, container, Kind::Gate, QUOTA, allowed)?;
+    Ok((c, value(new.label), value(new.clearance)))
 }
 
 fn new_row(label: Label, clearance: Label, number: u64) -> NewRow
     ensures { result ≡ gate_row_of label clearance number }
 {
     NewRow {
-        kind: GATE,
+        kind: Kind::Gate,
         mask: 0,
         quota: 1,
         entry: number,
@@ -72,7 +74,7 @@ fn new_row(label: Label, clearance: Label, number: u64) -> NewRow
     }
 }
 
-#[tactic(auto, using(crate::specs::Laws::Leave::call_steps, crate::specs::Laws::CreateGate::arguments_fit))]
+#[tactic(auto, using(crate::specs::Laws::Leave::call_steps))]
 pub fn create_gate(
     b: &mut [u8],
     area: &mut [u8],
@@ -87,7 +89,7 @@ pub fn create_gate(
     ensures { Done b.old area.old caller
         (create_gate d label.now clearance.now number closure.now description.now) result b.new area.new }
 {
-    let c = match judge(
+    let (c, new, most) = match judge(
         b,
         area,
         caller,
@@ -98,9 +100,9 @@ pub fn create_gate(
         closure,
         description,
     ) {
-        Ok(c) => c,
+        Ok(p) => p,
         Err(r) => return leave(b, r),
     };
-    let row = new_row(from_bytes(label), from_bytes(clearance), number);
-    Ok(make_in(book_in_mut(b), c, row, description, closure))
+    let row = new_row(new, most, number);
+    Ok(make_in(array_in_mut(b), c, row, description, closure))
 }

@@ -1,29 +1,33 @@
 // Call 5: a segment of length 0 created in a container.
 ghost use Rattle.std.specs.Prelude.{false, ◌&&◌, ◌≡◌, ◌<◌, leb};
+ghost use Rattle.labels.specs.Core.{label_of, meant};
 ghost use Rattle.rules.specs.Kernel.{good_label, good_text, max_quota, create_segment};
+ghost use Rattle.calls.specs.Arguments.{LentIf};
 ghost use Rattle.calls.specs.Outcome.{Done};
 ghost use Rattle.calls.specs.CreateSegment.{segment_row, SegmentJudged};
 
-use super::arguments::{good_label, good_text};
+use super::arguments::{good_text, lent_label};
 use super::begin::begin;
 use super::creating::{MAX_QUOTA, admit, make_in, or_default, plain_allowed};
 use super::leave::leave;
 use super::lookup::open_container;
 use super::{Answer, Refusal};
 use book::find::next_of;
-use book::kinds::SEGMENT;
+use book::kinds::Kind;
 use book::make::NewRow;
-use labels::Label;
-use labels::bytes::from_bytes;
-use tables::{Row, TEXT_SIZE, book_in_mut};
+use labels::in_place::value;
+use labels::{Label, LabelRef};
+use tables::{Row, TEXT_SIZE, array_in_mut};
 
 // RULES 3.7: ".. 0 stands for a default: 8 for a container, 5 for a segment."
 const DEFAULT_QUOTA: u64 = 5;
 
-fn good_arguments(next: u64, label: &[u8], description: &[u8], quota: u64) -> bool
-    ensures { result ≡ (good_label next false label.now && (good_text description.now && leb quota max_quota)) }
+// The label of the segment, if all that is lent for it is as it should be.
+fn new_label<'a>(next: u64, label: &'a [u8], description: &[u8], quota: u64) -> Option<LabelRef<'a>>
+    ensures { LentIf (good_label next false label.now && (good_text description.now && leb quota max_quota)) (λ l. meant l ≡ label_of label.now) result }
 {
-    good_label(label, next, false) && good_text(description) && quota <= MAX_QUOTA
+    let new = lent_label(label, next, false)?;
+    (good_text(description) && quota <= MAX_QUOTA).then_some(new)
 }
 
 #[tactic(auto, using(crate::specs::Laws::CreateSegment::ways_out))]
@@ -35,17 +39,16 @@ fn judge(
     label: &[u8],
     description: &[u8],
     quota: u64,
-) -> Result<Row, Refusal>
+) -> Result<(Row, Label), Refusal>
     ensures { SegmentJudged b.now area.now caller d label.now description.now quota result }
 {
     let (book, t) = begin(b, area, caller)?;
-    if !good_arguments(next_of(book), label, description, quota) {
-        return Err(Refusal::BadArgument);
-    }
+    let new = new_label(next_of(book), label, description, quota).ok_or(Refusal::BadArgument)?;
     let container = open_container(book, t, d)?;
-    let allowed = plain_allowed(book, t, label);
+    let allowed = plain_allowed(book, t, new);
     let units = or_default(quota, DEFAULT_QUOTA);
-    admit(book, t, container, SEGMENT, units, allowed)
+    let c = admit(book, t, container, Kind::Segment, units, allowed)?;
+    Ok((c, value(new)))
 }
 
 fn new_row(label: Label, quota: u64) -> NewRow
@@ -53,7 +56,7 @@ fn new_row(label: Label, quota: u64) -> NewRow
     ensures { result ≡ segment_row label quota }
 {
     NewRow {
-        kind: SEGMENT,
+        kind: Kind::Segment,
         mask: 0,
         quota: quota as u16,
         entry: 0,
@@ -74,11 +77,11 @@ pub fn create_segment(
 ) -> Answer
     ensures { Done b.old area.old caller (create_segment d label.now description.now quota) result b.new area.new }
 {
-    let c = match judge(b, area, caller, d, label, description, quota) {
-        Ok(c) => c,
+    let (c, new) = match judge(b, area, caller, d, label, description, quota) {
+        Ok(p) => p,
         Err(r) => return leave(b, r),
     };
-    let row = new_row(from_bytes(label), or_default(quota, DEFAULT_QUOTA));
+    let row = new_row(new, or_default(quota, DEFAULT_QUOTA));
     let closure = [0u8; TEXT_SIZE];
-    Ok(make_in(book_in_mut(b), c, row, description, &closure))
+    Ok(make_in(array_in_mut(b), c, row, description, &closure))
 }

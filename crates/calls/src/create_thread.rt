@@ -1,29 +1,39 @@
 // Call 7: a thread created in a container.
 ghost use Rattle.std.specs.Prelude.{true, false, ◌&&◌, ◌≡◌};
 ghost use Rattle.rules.specs.Kernel.{good_label, good_text, create_thread};
+ghost use Rattle.calls.specs.Arguments.{LentIf};
 ghost use Rattle.calls.specs.Outcome.{Done};
+ghost use Rattle.calls.specs.Creating.{LentPair};
 ghost use Rattle.calls.specs.CreateThread.{thread_row_of, ThreadJudged};
 
-use super::arguments::{good_label, good_text};
+use super::arguments::{good_text, lent_label};
 use super::begin::begin;
-use super::creating::{admit, cleared_allowed, make_in};
+use super::creating::{NewLabels, admit, cleared_allowed, make_in};
 use super::leave::leave;
 use super::lookup::open_container;
 use super::{Answer, Refusal};
 use book::find::next_of;
-use book::kinds::THREAD;
+use book::kinds::Kind;
 use book::make::NewRow;
 use labels::Label;
-use labels::bytes::from_bytes;
-use tables::{Row, TEXT_SIZE, book_in_mut};
+use labels::in_place::value;
+use tables::{Row, TEXT_SIZE, array_in_mut};
 
 // RULES 8.7: "As 8.4, with quota 1."
 const QUOTA: u64 = 1;
 
-fn good_arguments(next: u64, label: &[u8], clearance: &[u8], description: &[u8]) -> bool
-    ensures { result ≡ (good_label next true label.now && (good_label next false clearance.now && good_text description.now)) }
+// The labels of the thread, if all that is lent for it is as it should be.
+fn new_labels<'a>(
+    next: u64,
+    label: &'a [u8],
+    clearance: &'a [u8],
+    description: &[u8],
+) -> Option<NewLabels<'a>>
+    ensures { LentIf (good_label next true label.now && (good_label next false clearance.now && good_text description.now)) (LentPair label.now clearance.now) result }
 {
-    good_label(label, next, true) && good_label(clearance, next, false) && good_text(description)
+    let label = lent_label(label, next, true)?;
+    let clearance = lent_label(clearance, next, false)?;
+    good_text(description).then_some(NewLabels { label, clearance })
 }
 
 #[tactic(auto, using(crate::specs::Laws::CreateThread::ways_out))]
@@ -35,23 +45,22 @@ fn judge(
     label: &[u8],
     clearance: &[u8],
     description: &[u8],
-) -> Result<Row, Refusal>
+) -> Result<(Row, Label, Label), Refusal>
     ensures { ThreadJudged b.now area.now caller d label.now clearance.now description.now result }
 {
     let (book, t) = begin(b, area, caller)?;
-    if !good_arguments(next_of(book), label, clearance, description) {
-        return Err(Refusal::BadArgument);
-    }
+    let new = new_labels(next_of(book), label, clearance, description).ok_or(Refusal::BadArgument)?;
     let container = open_container(book, t, d)?;
-    let allowed = cleared_allowed(book, t, label, clearance);
-    admit(book, t, container, THREAD, QUOTA, allowed)
+    let allowed = cleared_allowed(book, t, new.label, new.clearance);
+    let c = admit(book, t, container, Kind::Thread, QUOTA, allowed)?;
+    Ok((c, value(new.label), value(new.clearance)))
 }
 
 fn new_row(label: Label, clearance: Label) -> NewRow
     ensures { result ≡ thread_row_of label clearance }
 {
     NewRow {
-        kind: THREAD,
+        kind: Kind::Thread,
         mask: 0,
         quota: 1,
         entry: 0,
@@ -60,7 +69,7 @@ fn new_row(label: Label, clearance: Label) -> NewRow
     }
 }
 
-#[tactic(auto, using(crate::specs::Laws::Leave::call_steps, crate::specs::Laws::CreateThread::arguments_fit))]
+#[tactic(auto, using(crate::specs::Laws::Leave::call_steps))]
 pub fn create_thread(
     b: &mut [u8],
     area: &mut [u8],
@@ -72,11 +81,11 @@ pub fn create_thread(
 ) -> Answer
     ensures { Done b.old area.old caller (create_thread d label.now clearance.now description.now) result b.new area.new }
 {
-    let c = match judge(b, area, caller, d, label, clearance, description) {
-        Ok(c) => c,
+    let (c, new, most) = match judge(b, area, caller, d, label, clearance, description) {
+        Ok(p) => p,
         Err(r) => return leave(b, r),
     };
-    let row = new_row(from_bytes(label), from_bytes(clearance));
+    let row = new_row(new, most);
     let closure = [0u8; TEXT_SIZE];
-    Ok(make_in(book_in_mut(b), c, row, description, &closure))
+    Ok(make_in(array_in_mut(b), c, row, description, &closure))
 }

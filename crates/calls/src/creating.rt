@@ -1,9 +1,10 @@
 // What calls 4 to 7 share: whether a thread may create an object in a container, and the making of it.
-ghost use Rattle.std.specs.Prelude.{◌≡◌, ◌≤◌, ◌<◌, length};
-ghost use Rattle.labels.specs.Core as core;
+ghost use Rattle.std.specs.Prelude.{◌≡◌};
+ghost use Rattle.labels.specs.Core.{meant};
 ghost use Rattle.rules.specs.Kernel.{or_default};
 ghost use Rattle.tables.specs.Layout.{view};
 ghost use Rattle.book.specs.Book.{next_of, label_of, clearance_of};
+ghost use Rattle.book.specs.Kinds.{code_of_kind};
 ghost use Rattle.book.specs.Make.{object_of, created_in, Creating};
 ghost use Rattle.book.specs.Sound.{Sound, Live};
 ghost use Rattle.calls.specs.Conditions.{tested};
@@ -14,10 +15,10 @@ use super::conditions::{ask_two, writing};
 use super::masks::forbids;
 use book::find::next_of;
 use book::in_place::{clearance_of, label_of};
+use book::kinds::Kind;
 use book::make::{NewRow, create};
 use book::units::spare_of;
-use labels::Rule;
-use labels::in_place::from_bytes;
+use labels::{LabelRef, Rule};
 use tables::{Book, Row};
 
 // RULES 3.7: "The quota given to call 4 or 5 is at most 255, .."
@@ -34,48 +35,50 @@ pub fn or_default(quota: u64, default: u64) -> u64
     quota
 }
 
+// The label and the clearance that are lent for a new object.
+#[derive(Clone, Copy)]
+pub struct NewLabels<'a> {
+    pub label: LabelRef<'a>,
+    pub clearance: LabelRef<'a>,
+}
+
 // The label conditions of a new object without a clearance, beside that of writing the container: the thread at row t flows to the label, and that to
 // the thread's clearance.
 #[tactic(auto, unfolding(crate::specs::Conditions::tested, rules::specs::Kernel::all_hold, rules::specs::Kernel::flow))]
-pub fn plain_allowed(b: &Book, t: Row, label: &[u8]) -> Result<(), Refusal>
-    requires { length label.now ≡ core.label_size }
-    ensures { result ≡ tested (plain_conditions (label_of (view b.now) t) (clearance_of (view b.now) t) (core.label_of label.now)) }
+pub fn plain_allowed(b: &Book, t: Row, new: LabelRef) -> Result<(), Refusal>
+    ensures { result ≡ tested (plain_conditions (label_of (view b.now) t) (clearance_of (view b.now) t) (meant new.entry)) }
 {
-    let new = from_bytes(label);
     ask_two(Rule::Flows, label_of(b, t), new)?;
     ask_two(Rule::Flows, new, clearance_of(b, t))
 }
 
 // The same of one with a clearance, which stands between the two.
 #[tactic(auto, unfolding(crate::specs::Conditions::tested, rules::specs::Kernel::all_hold, rules::specs::Kernel::flow))]
-pub fn cleared_allowed(b: &Book, t: Row, label: &[u8], clearance: &[u8]) -> Result<(), Refusal>
-    requires { (length label.now ≡ core.label_size) × (length clearance.now ≡ core.label_size) }
+pub fn cleared_allowed(b: &Book, t: Row, new: LabelRef, most: LabelRef) -> Result<(), Refusal>
     ensures { result ≡ tested (cleared_conditions (label_of (view b.now) t) (clearance_of (view b.now) t)
-        (core.label_of label.now) (core.label_of clearance.now)) }
+        (meant new.entry) (meant most.entry)) }
 {
-    let new = from_bytes(label);
-    let most = from_bytes(clearance);
     ask_two(Rule::Flows, label_of(b, t), new)?;
     ask_two(Rule::Flows, new, most)?;
     ask_two(Rule::Flows, most, clearance_of(b, t))
 }
 
-// Whether the thread at row t may create an object in the container at row c, by the tests from 7 on: `code` is that of the object's kind, and
-// `allowed` says what its own label conditions came to. Granted with the container's row.
+// Whether the thread at row t may create an object in the container at row c, by the tests from 7 on: `kind` is the object's, and `allowed` says
+// what its own label conditions came to. Granted with the container's row.
 pub fn admit(
     b: &Book,
     t: Row,
     c: Row,
-    code: u8,
+    kind: Kind,
     quota: u64,
     allowed: Result<(), Refusal>,
 ) -> Result<Row, Refusal>
-    requires { Sound (view b.now) × Live (view b.now) c × (1 ≤ code) × (code ≤ 64) }
-    ensures { result ≡ admitted (view b.now) t c code quota allowed }
+    requires { Sound (view b.now) × Live (view b.now) c }
+    ensures { result ≡ admitted (view b.now) t c (code_of_kind kind) quota allowed }
 {
     writing(label_of(b, t), label_of(b, c))?;
     allowed?;
-    if forbids(b, c, code) {
+    if forbids(b, c, kind) {
         return Err(Refusal::MaskForbids);
     }
     if spare_of(b, c) < quota {

@@ -14,9 +14,9 @@ use super::{Answer, Refusal};
 use book::alter::{fix, move_on};
 use book::find::kind_of;
 use book::in_place::label_of;
-use book::kinds::SEGMENT;
+use book::kinds::Kind;
 use labels::{LabelRef, Rule};
-use tables::{Row, book_in_mut};
+use tables::{Row, array_in_mut};
 
 // RULES 8.10: "7 unless T may write D and T flows to O."
 #[tactic(auto, unfolding(crate::specs::Conditions::tested, rules::specs::Kernel::all_hold, rules::specs::Kernel::flow, rules::specs::Kernel::writing, rules::specs::Kernel::reading))]
@@ -28,14 +28,14 @@ fn allowed(mine: LabelRef, holder: LabelRef, theirs: LabelRef) -> Result<(), Ref
     ask_two(Rule::Flows, mine, theirs)
 }
 
-#[tactic(auto, using(crate::specs::Laws::FixQuota::ways_out))]
+#[tactic(auto, using(crate::specs::Laws::FixQuota::ways_out, book::specs::Laws::Kinds::kind_same, book::specs::Laws::Kinds::kind_other))]
 fn judge(b: &[u8], area: &[u8], caller: u64, d: u64, o: u64) -> Result<Row, Refusal>
     ensures { FixJudged b.now area.now caller d o result }
 {
     let (book, t) = begin(b, area, caller)?;
     let place = open_entry(book, t, d, o)?;
     let object = place.object;
-    if kind_of(book, object) != SEGMENT {
+    if kind_of(book, object) != Some(Kind::Segment) {
         return Err(Refusal::WrongKind);
     }
     let mine = label_of(book, t);
@@ -52,7 +52,7 @@ pub fn fix_quota(b: &mut [u8], area: &mut [u8], caller: u64, d: u64, o: u64) -> 
         Ok(row) => row,
         Err(r) => return leave(b, r),
     };
-    let book = book_in_mut(b);
+    let book = array_in_mut(b);
     fix(book, row);
     move_on(book);
     Ok(0)

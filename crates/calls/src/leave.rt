@@ -5,7 +5,7 @@ ghost use Rattle.calls.specs.Outcome.{ruled, Leavable, LeavesBy};
 
 use super::Refusal;
 use book::alter::move_on;
-use tables::book_in_mut;
+use tables::array_in_mut;
 
 // RULES 4.2: "Only answers 1 and 2 use up none."
 const LAST_FREE: u64 = 2;
@@ -43,6 +43,6 @@ pub fn leave<T>(b: &mut [u8], r: Refusal) -> Result<T, Refusal>
     if n <= LAST_FREE {
         return Err(r);
     }
-    move_on(book_in_mut(b));
+    move_on(array_in_mut(b));
     Err(r)
 }

@@ -14,11 +14,11 @@ use super::masks::forbids;
 use super::{Answer, Refusal};
 use book::find::{fixed_of, kind_of, link_of, quota_of};
 use book::in_place::{clearance_of, label_of};
-use book::kinds::SEGMENT;
+use book::kinds::Kind;
 use book::make::add_link;
 use book::units::spare_of;
 use labels::Rule;
-use tables::{Book, Row, book_in_mut};
+use tables::{Book, Row, array_in_mut};
 
 // RULES 8.9: "7 unless T may write D and O flows to T's clearance. 8 if D's mask forbids segments. 9 unless O's quota is fixed. 10 if O is linked in
 // D already. 13 if O's quota is above D's spare." T is at row t, D at row c and O at row o. Granted with both rows.
@@ -29,7 +29,7 @@ fn admit(b: &Book, t: Row, c: Row, o: Row) -> Result<(Row, Row), Refusal>
 {
     writing(label_of(b, t), label_of(b, c))?;
     ask_two(Rule::Flows, label_of(b, o), clearance_of(b, t))?;
-    if forbids(b, c, SEGMENT) {
+    if forbids(b, c, Kind::Segment) {
         return Err(Refusal::MaskForbids);
     }
     if !fixed_of(b, o) {
@@ -44,14 +44,14 @@ fn admit(b: &Book, t: Row, c: Row, o: Row) -> Result<(Row, Row), Refusal>
     Ok((c, o))
 }
 
-#[tactic(auto, using(crate::specs::Laws::LinkSegment::ways_out))]
+#[tactic(auto, using(crate::specs::Laws::LinkSegment::ways_out, book::specs::Laws::Kinds::kind_same, book::specs::Laws::Kinds::kind_other))]
 fn judge(b: &[u8], area: &[u8], caller: u64, d1: u64, o: u64, d: u64) -> Result<(Row, Row), Refusal>
     ensures { LinkJudged b.now area.now caller d1 o d result }
 {
     let (book, t) = begin(b, area, caller)?;
     let place = open_entry(book, t, d1, o)?;
     let into = open_container(book, t, d)?;
-    if kind_of(book, place.object) != SEGMENT {
+    if kind_of(book, place.object) != Some(Kind::Segment) {
         return Err(Refusal::WrongKind);
     }
     admit(book, t, into, place.object)
@@ -63,7 +63,7 @@ pub fn link_segment(b: &mut [u8], area: &mut [u8], caller: u64, d1: u64, o: u64,
 {
     match judge(b, area, caller, d1, o, d) {
         Ok((into, object)) => {
-            add_link(book_in_mut(b), into, object);
+            add_link(array_in_mut(b), into, object);
             Ok(0)
         }
         Err(r) => leave(b, r),

@@ -13,13 +13,13 @@ use super::lookup::{open_container, open_entry};
 use super::{Answer, Refusal};
 use book::alter::move_on;
 use book::area::clear_all;
-use book::find::{description_into, kind_of};
+use book::find::description_into;
 use book::in_place::label_of;
-use book::kinds::THREAD;
+use book::kinds::Kind;
 use labels::compare::may_read;
 use labels::in_place::put_words;
 use labels::{LabelRef, WORDS};
-use tables::{Book, Row, TEXT_SIZE, book_in_mut};
+use tables::{Book, KIND, Row, TEXT_SIZE, array_in_mut};
 
 // The bytes of an output: the description, eight bytes, and the words of a label.
 pub const LOOK_SIZE: usize = TEXT_SIZE + 8 + WORDS * 8;
@@ -58,41 +58,43 @@ fn judge(
 // ---- what is put out
 
 // RULES 8.16: "If O is a thread that T may not read, all bytes after the kind's code are 0."
-fn shown(kind: u8, mine: LabelRef, theirs: LabelRef) -> bool
-    ensures { result ≡ shown_b kind (meant mine.entry) (meant theirs.entry) }
+fn shown(code: u8, mine: LabelRef, theirs: LabelRef) -> bool
+    ensures { result ≡ shown_b code (meant mine.entry) (meant theirs.entry) }
 {
-    kind != THREAD || may_read(mine, theirs)
+    code != u8::from(Kind::Thread) || may_read(mine, theirs)
 }
 
+// What is put out is a part of a lent slice, and its length is said of it: an array would be made of it for these three alone.
+
 // Zeros in place of a label.
-fn put_hidden(out: &mut [u8], kind: u8)
+fn put_hidden(out: &mut [u8], code: u8)
     requires { length out.old ≡ 8 + word_count * 8 }
-    ensures { out.new ≡ hidden_bytes kind }
+    ensures { out.new ≡ hidden_bytes code }
 {
     clear_all(out);
-    out[0] = kind;
+    out[0] = code;
 }
 
 #[tactic(auto, using(labels::specs::Core::InPlace::meant_default))]
-fn put_shown(out: &mut [u8], kind: u8, label: LabelRef)
+fn put_shown(out: &mut [u8], code: u8, label: LabelRef)
     requires { (length out.old ≡ 8 + word_count * 8) × ((meant label).default < 256) × (length (meant label).words ≡ word_count) }
-    ensures { out.new ≡ shown_bytes kind (meant label.entry) }
+    ensures { out.new ≡ shown_bytes code (meant label.entry) }
 {
     let (head, words) = out.split_at_mut(8);
-    head.copy_from_slice(&[kind, 1, label.default as u8, 0, 0, 0, 0, 0]);
+    head.copy_from_slice(&[code, 1, label.default as u8, 0, 0, 0, 0, 0]);
     put_words(words, 0, label);
 }
 
-// Kind and label, shown or not.
-fn put_label(out: &mut [u8], kind: u8, mine: LabelRef, theirs: LabelRef)
+// The kind's code and the label, shown or not.
+fn put_label(out: &mut [u8], code: u8, mine: LabelRef, theirs: LabelRef)
     requires { (length out.old ≡ 8 + word_count * 8) × ((meant theirs).default < 256) × (length (meant theirs).words ≡ word_count) }
-    ensures { out.new ≡ cond (shown_b kind (meant mine.entry) (meant theirs.entry)) (shown_bytes kind (meant theirs.entry)) (hidden_bytes kind) }
+    ensures { out.new ≡ cond (shown_b code (meant mine.entry) (meant theirs.entry)) (shown_bytes code (meant theirs.entry)) (hidden_bytes code) }
 {
-    if !shown(kind, mine, theirs) {
-        put_hidden(out, kind);
+    if !shown(code, mine, theirs) {
+        put_hidden(out, code);
         return;
     }
-    put_shown(out, kind, theirs);
+    put_shown(out, code, theirs);
 }
 
 // What the thread at row t is shown of the object at row r.
@@ -103,10 +105,10 @@ fn look_into(b: &Book, t: Row, r: Row, out: &mut [u8])
 {
     let mine = label_of(b, t);
     let theirs = label_of(b, r);
-    let kind = kind_of(b, r);
+    let code = KIND.get(b, r);
     let (text, rest) = out.split_at_mut(TEXT_SIZE);
     description_into(b, r, text);
-    put_label(rest, kind, mine, theirs);
+    put_label(rest, code, mine, theirs);
 }
 
 #[tactic(auto, using(crate::specs::Laws::Leave::leavable, crate::specs::Laws::Prelude::book_long))]
@@ -117,7 +119,7 @@ pub fn look(b: &mut [u8], area: &mut [u8], caller: u64, d: u64, o: u64, out: &mu
     let n = out.len();
     match judge(b, area, caller, d, o, n) {
         Ok((t, r)) => {
-            let book = book_in_mut(b);
+            let book = array_in_mut(b);
             look_into(book, t, r, out);
             move_on(book);
             Ok(0)

@@ -1,16 +1,15 @@
 // Call 11: units moved from a container into what it holds, or back.
-ghost use Rattle.std.specs.Prelude.{◌||◌, ◌≡◌, ◌∷◌, ◌++◌, eqb};
+ghost use Rattle.std.specs.Prelude.{◌≡◌, ◌∷◌, ◌++◌};
 ghost use Rattle.labels.specs.Core.{meant};
 ghost use Rattle.tables.specs.Layout.{view};
 ghost use Rattle.book.specs.Sound.{Live, Sound};
 ghost use Rattle.calls.specs.Amount.{more_for, room_at};
-ghost use Rattle.calls.specs.MoveQuota.{MoveJudged, is_fixed};
+ghost use Rattle.calls.specs.MoveQuota.{MoveJudged, is_fixed, movable};
 ghost use Rattle.calls.specs.Outcome.{Done};
 ghost use Rattle.rules.specs.Kernel as kernel;
-ghost use Rattle.rules.specs.Kernel.{segment_code, container_code};
 ghost use Rattle.calls.specs.Conditions.{tested};
 
-use super::amount::{Amount, moved, units_of};
+use super::amount::{Amount, moved};
 use super::begin::begin;
 use super::conditions::{ask_two, reading, writing};
 use super::leave::leave;
@@ -19,16 +18,17 @@ use super::{Answer, Refusal};
 use book::alter::{move_on, set_quota};
 use book::find::{fixed_of, kind_of, quota_of};
 use book::in_place::{clearance_of, label_of};
-use book::kinds::{CONTAINER, SEGMENT};
+use book::kinds::Kind;
 use book::units::spare_of;
 use labels::{LabelRef, Rule};
-use tables::{Book, Row, book_in_mut};
+use tables::{Book, Row, array_in_mut};
 
 // A segment or a container.
-fn movable(kind: u8) -> bool
-    ensures { result ≡ (eqb kind segment_code || eqb kind container_code) }
+#[tactic(auto, unfolding(book::specs::Kinds::kind_with))]
+fn movable(b: &Book, r: Row) -> bool
+    ensures { result ≡ movable (view b.now) r }
 {
-    kind == SEGMENT || kind == CONTAINER
+    matches!(kind_of(b, r), Some(Kind::Segment | Kind::Container))
 }
 
 // RULES 8.11: ".. and, for n below 0, O flows to high(T)."
@@ -62,11 +62,11 @@ fn allowed(
 }
 
 // Only a segment's quota can be fixed; in other rows the mark is an unused byte.
-#[tactic(auto, unfolding(crate::specs::MoveQuota::is_fixed))]
+#[tactic(auto, using(book::specs::Laws::Kinds::kind_eq_is), unfolding(crate::specs::MoveQuota::is_fixed))]
 fn is_fixed(b: &Book, r: Row) -> bool
     ensures { result ≡ is_fixed (view b.now) r }
 {
-    kind_of(b, r) == SEGMENT && fixed_of(b, r)
+    kind_of(b, r) == Some(Kind::Segment) && fixed_of(b, r)
 }
 
 // RULES 8.11: "13 if n is above D's spare, or if n is below 0 and -n is above O's spare."
@@ -92,10 +92,10 @@ fn judge(
     ensures { MoveJudged b.now area.now caller d o n result }
 {
     let (book, t) = begin(b, area, caller)?;
-    let units = units_of(n)?;
+    let units = Amount::try_from(n)?;
     let place = open_entry(book, t, d, o)?;
     let object = place.object;
-    if !movable(kind_of(book, object)) {
+    if !movable(book, object) {
         return Err(Refusal::WrongKind);
     }
     let mine = label_of(book, t);
@@ -119,7 +119,7 @@ pub fn move_quota(b: &mut [u8], area: &mut [u8], caller: u64, d: u64, o: u64, n:
         Ok(moving) => moving,
         Err(r) => return leave(b, r),
     };
-    let book = book_in_mut(b);
+    let book = array_in_mut(b);
     let q = moved(quota_of(book, row), units);
     set_quota(book, row, q);
     move_on(book);

@@ -9,7 +9,7 @@ ghost use Rattle.calls.specs.Part.{part_at};
 use super::Refusal;
 use book::blocks::block_of;
 use book::find::{kind_of, len_of};
-use book::kinds::SEGMENT;
+use book::kinds::Kind;
 use tables::{Book, Row};
 
 // RULES 8.12: "4 if k is above 253, .."
@@ -56,6 +56,7 @@ fn place_of(b: &Book, r: Row, part: Part) -> usize
 }
 
 // Where the part of the object at row r begins in the data area, by the tests from 6 on; `allowed` is what test 7 comes to.
+#[tactic(auto, using(book::specs::Laws::Kinds::kind_eq_is))]
 pub fn find_part(
     b: &Book,
     r: Row,
@@ -64,7 +65,7 @@ pub fn find_part(
 ) -> Result<usize, Refusal>
     ensures { result ≡ part_at (view b.now) r part.block part.from part.count allowed }
 {
-    if kind_of(b, r) != SEGMENT {
+    if kind_of(b, r) != Some(Kind::Segment) {
         return Err(Refusal::WrongKind);
     }
     allowed?;

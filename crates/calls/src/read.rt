@@ -10,7 +10,7 @@ use super::part::{Part, find_part};
 use super::spread::spread;
 use book::alter::move_on;
 use book::in_place::label_of;
-use tables::book_in_mut;
+use tables::array_in_mut;
 
 #[tactic(auto, using(crate::specs::Laws::Read::ways_out))]
 fn judge(
@@ -50,7 +50,7 @@ pub fn locate(
         Ok(place) => place,
         Err(r) => return leave(b, r),
     };
-    move_on(book_in_mut(b));
+    move_on(array_in_mut(b));
     Ok((place, count as usize))
 }
 

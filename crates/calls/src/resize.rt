@@ -9,17 +9,16 @@ use super::leave::leave;
 use super::lookup::open_entry;
 use super::{Answer, Refusal};
 use book::alter::move_on;
-use book::area::area_in_mut;
 use book::find::{kind_of, quota_of};
 use book::in_place::label_of;
-use book::kinds::SEGMENT;
+use book::kinds::Kind;
 use book::units::units;
-use tables::{Row, book_in_mut};
+use tables::{Row, array_in_mut};
 
 // RULES 8.14: "4 if the length is above 16,256."
 const MAX_LENGTH: u64 = book::limits::MAX_LENGTH as u64;
 
-#[tactic(auto, using(crate::specs::Laws::Resize::ways_out))]
+#[tactic(auto, using(crate::specs::Laws::Resize::ways_out, book::specs::Laws::Kinds::kind_same, book::specs::Laws::Kinds::kind_other))]
 fn judge(b: &[u8], area: &[u8], caller: u64, d: u64, s: u64, length: u64) -> Result<Row, Refusal>
     ensures { ResizeJudged b.now area.now caller d s length result }
 {
@@ -29,7 +28,7 @@ fn judge(b: &[u8], area: &[u8], caller: u64, d: u64, s: u64, length: u64) -> Res
     }
     let place = open_entry(book, t, d, s)?;
     let object = place.object;
-    if kind_of(book, object) != SEGMENT {
+    if kind_of(book, object) != Some(Kind::Segment) {
         return Err(Refusal::WrongKind);
     }
     writing(label_of(book, t), label_of(book, object))?;
@@ -47,8 +46,8 @@ pub fn resize(b: &mut [u8], area: &mut [u8], caller: u64, d: u64, s: u64, length
         Ok(row) => row,
         Err(r) => return leave(b, r),
     };
-    let book = book_in_mut(b);
-    book::resize::resize(book, area_in_mut(area), row, length as u16);
+    let book = array_in_mut(b);
+    book::resize::resize(book, array_in_mut(area), row, length as u16);
     move_on(book);
     Ok(0)
 }

@@ -3,9 +3,8 @@ ghost use Rattle.calls.specs.Outcome.{number_of};
 ghost use Rattle.calls.specs.Started.{Started};
 
 use super::Refusal;
-use book::area::area_in_mut;
 use book::sound::AREA_LEN;
-use tables::{book_in, book_in_mut};
+use tables::{array_in_mut, book_in};
 
 // The largest first number: two more are taken at once, and a call must still have one.
 pub const LAST_FIRST: u64 = book::limits::LAST_NUMBER - 2;
@@ -20,6 +19,6 @@ pub fn start(b: &mut [u8], area: &mut [u8], first: u64) -> Result<(), Refusal>
     if first < 1 || LAST_FIRST < first {
         return Err(Refusal::BadArgument);
     }
-    book::start::start(book_in_mut(b), area_in_mut(area), first);
+    book::start::start(array_in_mut(b), array_in_mut(area), first);
     Ok(())
 }

@@ -8,10 +8,9 @@ use super::conditions::writing;
 use super::leave::leave;
 use super::lookup::open_entry;
 use super::{Answer, Refusal};
-use book::area::area_in_mut;
 use book::cut::cut_entry;
 use book::in_place::label_of;
-use tables::book_in_mut;
+use tables::array_in_mut;
 
 #[tactic(auto, using(crate::specs::Laws::Unreference::ways_out))]
 fn judge(b: &[u8], area: &[u8], caller: u64, d: u64, o: u64) -> Result<usize, Refusal>
@@ -29,7 +28,7 @@ pub fn unreference(b: &mut [u8], area: &mut [u8], caller: u64, d: u64, o: u64) -
 {
     match judge(b, area, caller, d, o) {
         Ok(link) => {
-            cut_entry(book_in_mut(b), area_in_mut(area), link);
+            cut_entry(array_in_mut(b), array_in_mut(area), link);
             Ok(0)
         }
         Err(r) => leave(b, r),

@@ -12,7 +12,7 @@ use super::{Answer, Refusal};
 use book::alter::move_on;
 use book::area::write_area;
 use book::in_place::label_of;
-use tables::book_in_mut;
+use tables::array_in_mut;
 
 #[tactic(auto, using(crate::specs::Laws::Write::ways_out))]
 fn judge(
@@ -57,6 +57,6 @@ pub fn write(
         Err(r) => return leave(b, r),
     };
     write_area(area, place, bytes);
-    move_on(book_in_mut(b));
+    move_on(array_in_mut(b));
     Ok(0)
 }

@@ -1,11 +1,10 @@
 -- A signed number of units, by cases on the integer.
-use Rattle.std.specs.Prelude.{ℕ, suc, ◌+◌, ◌-◌, ◌<◌, ◌≤◌, Bool, not, ◌||◌, ◌≡◌, [], ◌∷◌, ◌++◌, T, ℤ, pos, negsuc, ◌-ℤ◌, nat_abs, Ok, Err}
-use Rattle.std.proofs.Common.{arith, sym, ap, subst, SFits, Fits}
+use Rattle.std.specs.Prelude.{ℕ, suc, ◌+◌, ◌-◌, ◌<◌, ◌≤◌, Bool, not, ◌||◌, ◌≡◌, [], ◌∷◌, ◌++◌, ℤ, pos, negsuc, nat_abs, Ok, Err}
+use Rattle.std.proofs.Common.{arith, sym, ap, subst}
 use Rattle.std.proofs.Math.Bool.{true, false, cond}
 use Rattle.std.proofs.Math.Path.{refl}
 use Rattle.std.proofs.Math.Dec.{leb, ltb}
-use Rattle.std.specs.Int.Signed.{lt_z, non_neg}
-use Rattle.std.specs.Int.{w64}
+use Rattle.std.specs.Int.Signed.{lt_z}
 use borrow.Author.Tests.{ltb-true, ltb-false, lt-ltb, le-ltb, lt-leb, le-leb}
 use Rattle.rules.specs.Kernel.{Obj, World, Verdict, grant, must, must_hold, judge, move, entry, is_segment, is_container, writing, flow, move_quota, alter, requota}
 use Rattle.rules.specs.Kernel.{good_arguments, max_move, root_quota}
@@ -18,39 +17,21 @@ use Rattle.calls.specs.Laws.Ways.{same_value, same_reason, not_both}
 
 -- ---- as the code turns it
 
--- below the limit
-pub too_low : (z : ℤ) → lt_z z (negsuc (max_move - 1)) ≡ true → Err BadArgument ≡ amount_of z
+-- over the limit, either way
+pub too_much : (z : ℤ) → max_move < nat_abs z → Err BadArgument ≡ amount_of z
 unfolding amount_of
-too_low (pos k) h = cc
-too_low (negsuc k) h = rw (le-ltb k max_move (omega (arith, ltb-true (max_move - 1) k h)))
+too_much (pos k) h = rw (lt-ltb max_move k h)
+too_much (negsuc k) h = rw (le-ltb k max_move (omega (arith, h)))
 
--- above it
-pub too_high : (z : ℤ) → lt_z (pos max_move) z ≡ true → Err BadArgument ≡ amount_of z
+pub goes_in : (z : ℤ) → nat_abs z ≤ max_move → lt_z z (pos 0) ≡ false → Ok (In (nat_abs z)) ≡ amount_of z
 unfolding amount_of
-too_high (pos k) h = rw h
-too_high (negsuc k) h = cc
+goes_in (pos k) h g = rw (le-ltb max_move k h)
+goes_in (negsuc k) h g = cc
 
-pub within : (z : ℤ) → lt_z z (pos 0) ≡ false → lt_z (pos max_move) z ≡ false → Ok (In (nat_abs z)) ≡ amount_of z
+pub goes_out : (z : ℤ) → nat_abs z ≤ max_move → lt_z z (pos 0) ≡ true → Ok (Out (nat_abs z)) ≡ amount_of z
 unfolding amount_of
-within (pos k) h g = rw g
-within (negsuc k) h g = cc
-
-pub nonneg : (z : ℤ) → lt_z z (pos 0) ≡ false → SFits w64 z → T (non_neg z) × Fits w64 (nat_abs z)
-nonneg (pos k) h f = (tt, record { fits = omega (arith, f.sfits) })
-nonneg (negsuc k) h f = let z : ◌≡◌ {A = ℕ} 0 1 = cc in absurd (omega arith)
-
-pub minus : (z : ℤ) → lt_z z (pos 0) ≡ true → lt_z z (negsuc (max_move - 1)) ≡ false → SFits w64 (pos 0 -ℤ z)
-minus (pos k) h g = let z : k < 0 = ltb-true k 0 h in absurd (omega arith)
-minus (negsuc k) h g = record { sfits = omega (arith, ltb-false (max_move - 1) k g) }
-
-pub minus_nonneg : (z : ℤ) → lt_z z (pos 0) ≡ true → lt_z z (negsuc (max_move - 1)) ≡ false → T (non_neg (pos 0 -ℤ z)) × Fits w64 (nat_abs (pos 0 -ℤ z))
-minus_nonneg (pos k) h g = let z : k < 0 = ltb-true k 0 h in absurd (omega arith)
-minus_nonneg (negsuc k) h g = (tt, record { fits = omega (arith, ltb-false (max_move - 1) k g) })
-
-pub without : (z : ℤ) → lt_z z (pos 0) ≡ true → lt_z z (negsuc (max_move - 1)) ≡ false → Ok (Out (nat_abs (pos 0 -ℤ z))) ≡ amount_of z
-unfolding amount_of
-without (pos k) h g = let z : k < 0 = ltb-true k 0 h in absurd (omega arith)
-without (negsuc k) h g = rw (lt-ltb k max_move (omega (arith, ltb-false (max_move - 1) k g))) (ap (λ (m : ℕ). Ok (Out m)) (omega arith))
+goes_out (pos k) h g = let z : k < 0 = ltb-true k 0 g in absurd (omega arith)
+goes_out (negsuc k) h g = rw (lt-ltb k max_move (omega (arith, h)))
 
 -- ---- as the code goes by it
 

@@ -1,6 +1,7 @@
 -- Call 4: the verdict at each way out, and what the making leaves.
-use Rattle.std.specs.Prelude.{ℕ, ◌<◌, ◌≤◌, true, ◌&&◌, ◌≡◌, List, [], ◌∷◌, length, replicate, ⊤, Result, Ok, Err, Some}
+use Rattle.std.specs.Prelude.{ℕ, ◌<◌, ◌≤◌, true, ◌&&◌, ◌≡◌, List, [], ◌∷◌, length, replicate, ⊤, Option, MatchOption, Result, Ok, Err, Some}
 use Rattle.std.proofs.Common.{arith, ap, ◌∙◌, leb-true}
+use Rattle.std.specs.Option.{ok_or}
 use Rattle.std.specs.Result.{IsErr, IsErrAnd}
 use Rattle.std.proofs.Math.Bool.{false}
 use Rattle.std.proofs.Math.Path.{refl, sym, ap₂, subst}
@@ -8,7 +9,7 @@ use Rattle.std.specs.Int.Bits.{bit_or}
 use Rattle.std.proofs.lemmas.Nat.{or_lt}
 use Rattle.std.proofs.Math.Dec.{leb}
 use Rattle.labels.specs.declared.Label.{Label}
-use Rattle.labels.specs.Core.{label_size}
+use Rattle.labels.specs.declared.LabelRef.{LabelRef}
 use Rattle.labels.specs.Core as core
 use Rattle.labels.specs.Core.Bytes.{label_of_length}
 use Rattle.labels.specs.Core.Formed.{and_l, and_r}
@@ -24,26 +25,27 @@ use Rattle.book.specs.Laws.Handed.{container_handed, row_is_container}
 use Rattle.calls.specs.declared.Refusal.{Refusal}
 use Rattle.calls.specs.declared.Refusal.TheVariants.{BadArgument}
 use Rattle.calls.specs.Conditions.{tested}
-use Rattle.calls.specs.Outcome.{verdict_on, Told, Ready, Done}
+use Rattle.calls.specs.Outcome.{verdict_on, Ready, Means, Done}
 use Rattle.calls.specs.Begun.{Caller}
 use Rattle.calls.specs.Lookup.{open_container}
 use Rattle.calls.specs.Creating.{plain_conditions, admitted, ToMake}
 use Rattle.calls.specs.CreateContainer.{new_container, container_row_of, ContainerJudged}
-use Rattle.calls.specs.Laws.Arguments.{good_long, good_default, good_text_long, first_long}
+use Rattle.calls.specs.Laws.Arguments.{good_default, good_text_long, lent_long}
 use Rattle.calls.specs.Laws.Begun.{caller_four, caller_label, caller_clearance}
-use Rattle.calls.specs.Laws.Leave.{told, told_on}
+use Rattle.calls.specs.Laws.Leave.{told, told_on, told_none}
 use Rattle.calls.specs.Laws.Creating.{create_five, create_judged, default_most, creating, made_done}
 use Rattle.calls.specs.Laws.Lookup.{mask_at}
 use Rattle.calls.specs.Laws.Prelude.{book_sound}
 
 module _ (w b area l s : List ℕ) (c t d m q : ℕ) (same : w ≡ b) (by : Caller w area c t) where
   -- bad arguments: 4
-  pub container_four : (good_label (next_of (view w)) false l && (good_text s && (leb m max_mask && leb q max_quota))) ≡ false
-      → Told b area (verdict_on b area c (create_container d l s m q)) BadArgument
+  pub container_four : (o : Option LabelRef) (well : LabelRef → Type 0)
+      → MatchOption o ((good_label (next_of (view w)) false l && (good_text s && (leb m max_mask && leb q max_quota))) ≡ false) well → (f : Refusal) → ok_or o BadArgument ≡ Err f
+      → (r : Result (ℕ × Label) Refusal) → IsErr r × IsErrAnd r (λ y. y ≡ f) → ContainerJudged b area c d l s m q r
   unfolding good_arguments
-  container_four bad =
-      subst (λ (z : List ℕ). Told z area (verdict_on z area c (create_container d l s m q)) BadArgument) same
-      (told (caller_four w area c t by (create_container d l s m q) bad) by.ready)
+  container_four o well h f e r on =
+      subst (λ (z : List ℕ). ContainerJudged z area c d l s m q r) same
+      (told_none _ r on o well BadArgument h e (λ bad. told (caller_four w area c t by (create_container d l s m q) bad) by.ready))
 
   module _ (good : (good_label (next_of (view w)) false l && (good_text s && (leb m max_mask && leb q max_quota))) ≡ true) where
     arguments : good_arguments (next_of (view w)) (create_container d l s m q) ≡ true
@@ -51,31 +53,45 @@ module _ (w b area l s : List ℕ) (c t d m q : ℕ) (same : w ≡ b) (by : Call
     arguments = good
 
     -- no container that is open: 5
-    pub container_five : (f : Refusal) → open_container (view w) t d ≡ Err f → (r : Result ℕ Refusal) → IsErr r × IsErrAnd r (λ y. y ≡ f) → ContainerJudged b area c d l s m q r
+    pub container_five : (f : Refusal) → open_container (view w) t d ≡ Err f → (r : Result (ℕ × Label) Refusal) → IsErr r × IsErrAnd r (λ y. y ≡ f) → ContainerJudged b area c d l s m q r
     unfolding judge
     container_five f shut r on =
         subst (λ (z : List ℕ). ContainerJudged z area c d l s m q r) same
         (told_on _ r on (create_five w area c t by (create_container d l s m q) d (new_container (world_of (view w) area) d l s m q)
         (flow (core.label_of l) ((world_of (view w) area).obj c).clearance ∷ []) arguments refl f shut))
 
-    -- one that is, at row `at`: what is shared decides
-    pub container_judged : (at : ℕ) → open_container (view w) t d ≡ Ok at
-        → (allowed : Result ⊤ Refusal) → allowed ≡ tested (plain_conditions (label_of (view w) t) (clearance_of (view w) t) (core.label_of l))
-        → (units : ℕ) → units ≡ or_default q container_default → (r : Result ℕ Refusal) → r ≡ admitted (view w) t at container_code units allowed → ContainerJudged b area c d l s m q r
-    unfolding judge container_of kind_code
-    container_judged at o allowed e units f r h =
-        subst (λ (z : List ℕ). ContainerJudged z area c d l s m q r) same
-        (create_judged w area c t by (create_container d l s m q) d (new_container (world_of (view w) area) d l s m q)
-        (flow (core.label_of l) ((world_of (view w) area).obj c).clearance ∷ []) arguments refl at o container_code units allowed
-        (record {
-          of_kind_lem = refl;
-          units = sym f;
-          conditions = ap₂ (λ (u k : Label). tested (plain_conditions u k (core.label_of l))) (caller_label w area c t by) (caller_clearance w area c t by) ∙ sym e;
-        })
-        r h)
+    -- what the answer of admitting means, of a book with the bytes z
+    abbrev answered : List ℕ → Result ℕ Refusal → Type 0
+    answered z = Means z area (verdict_on z area c (create_container d l s m q)) (ToMake z area c (create_container d l s m q) d (new_container (world_of (view z) area) d l s m q))
 
--- what its judging needs at each way out
-pub ruleset ways_out = (container_four, container_five, container_judged, first_long)
+    -- one that is, at row `at`: what is shared decides
+    module _ (at : ℕ) (o : open_container (view w) t d ≡ Ok at) (allowed : Result ⊤ Refusal)
+        (e : allowed ≡ tested (plain_conditions (label_of (view w) t) (clearance_of (view w) t) (core.label_of l)))
+        (units : ℕ) (f : units ≡ or_default q container_default) where
+      shared : (r : Result ℕ Refusal) → r ≡ admitted (view w) t at container_code units allowed → answered b r
+      unfolding judge container_of kind_code
+      shared r h =
+          subst (λ (z : List ℕ). answered z r) same
+          (create_judged w area c t by (create_container d l s m q) d (new_container (world_of (view w) area) d l s m q)
+          (flow (core.label_of l) ((world_of (view w) area).obj c).clearance ∷ []) arguments refl at o container_code units allowed
+          (record {
+            of_kind_lem = refl;
+            units = sym f;
+            conditions = ap₂ (λ (u k : Label). tested (plain_conditions u k (core.label_of l))) (caller_label w area c t by) (caller_clearance w area c t by) ∙ sym e;
+          })
+          r h)
+
+      -- which refuses,
+      pub container_refused : (g : Refusal) → admitted (view w) t at container_code units allowed ≡ Err g
+          → (r : Result (ℕ × Label) Refusal) → IsErr r × IsErrAnd r (λ y. y ≡ g) → ContainerJudged b area c d l s m q r
+      container_refused g h r on = told_on _ r on (shared (Err g) (sym h))
+
+      -- or grants
+      pub container_granted : (i : ℕ) → admitted (view w) t at container_code units allowed ≡ Ok i → (n : Label) → n ≡ core.label_of l → ContainerJudged b area c d l s m q (Ok (i, n))
+      container_granted i h n same = let (ready, go) = shared (Ok i) (sym h) in (ready, (go, same))
+
+-- what its judging needs at each way out but the granted one
+pub ruleset ways_out = (container_four, container_five, container_refused, lent_long)
 
 -- masks joined are a mask
 pub masks_joined : (m n : ℕ) → m ≤ max_mask → n ≤ max_mask → bit_or m n < 256
@@ -99,9 +115,6 @@ module _ (n : ℕ) (l s : List ℕ) (d m q : ℕ) (good : good_arguments n (crea
 
   numbers_good : (leb m max_mask && leb q max_quota) ≡ true
   numbers_good = and_r (good_text s) (leb m max_mask && leb q max_quota) rest_good
-
-  pub container_label_long : length l ≡ label_size
-  container_label_long = good_long n false l label_good
 
   pub container_mask_most : m ≤ max_mask
   container_mask_most = leb-true m max_mask (and_l (leb m max_mask) (leb q max_quota) numbers_good)
@@ -143,4 +156,4 @@ module _ (n : ℕ) (l s : List ℕ) (d m q : ℕ) (good : good_arguments n (crea
         made_done w b area c (create_container d l s m q) d (new_container (world_of (view b) area) d l s m q) i same ready go b' long (object_of row s (replicate text_size 0)) made made_object
 
 -- what is asked of the arguments where it is made
-pub ruleset arguments_fit = (container_label_long, container_mask_most, container_quota_low, outer_most)
+pub ruleset arguments_fit = (container_mask_most, container_quota_low, outer_most)

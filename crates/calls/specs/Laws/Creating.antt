@@ -1,12 +1,10 @@
 -- Calls 4 to 7: what they share, and the verdict by it.
-use Rattle.std.specs.Prelude.{ℕ, ◌≤◌, Bool, not, ◌&&◌, ◌≡◌, refl, length, eqb, leb, ⊤, Result, Ok, Err}
+use Rattle.std.specs.Prelude.{ℕ, ◌≤◌, Bool, not, ◌≡◌, refl, length, eqb, leb, ⊤, Result, Ok, Err}
 use Rattle.std.proofs.Math.Bool.{true, false, cond}
 use Rattle.std.proofs.Math.Path.{sym, ap, subst}
 use Rattle.std.proofs.Common.{◌∙◌}
 use mathlib.Core.List.{List, [], ◌∷◌, ◌++◌}
-use Rattle.labels.specs.Core.{label_size}
-use Rattle.labels.specs.Core.Formed.{and_l, and_r}
-use Rattle.rules.specs.Kernel.{container_code, Obj, grant, must, must_hold, make, opens, writing, flow, forbids, fits, Condition, Call, judge, good_arguments, good_label, create, or_default}
+use Rattle.rules.specs.Kernel.{container_code, Obj, grant, must, must_hold, make, opens, writing, flow, forbids, fits, Condition, Call, judge, good_arguments, create, or_default}
 use Rattle.tables.specs.Layout.{view}
 use Rattle.book.specs.Book.{next_of, label_of, world_of}
 use Rattle.book.specs.declared.make.NewRow.{NewRow}
@@ -24,20 +22,12 @@ use Rattle.calls.specs.Begun.{Caller}
 use Rattle.calls.specs.Lookup.{open_container}
 use Rattle.calls.specs.Masks.{forbids_at}
 use Rattle.calls.specs.Creating.{Asked, admitted, ToMake}
-use Rattle.calls.specs.Laws.Arguments.{good_long}
 use Rattle.calls.specs.Laws.Begun.{caller_judged, caller_label, sound_by_caller}
 use Rattle.calls.specs.Laws.Lookup.{shut_told, is_open, holder_row, holder_there, holder_label, holder_forbids, holder_fits}
 use Rattle.calls.specs.Laws.Prelude.{must_passed, book_long, done_granted}
 use Rattle.calls.specs.Laws.Tested.{means_tested, means_both}
 
 -- ---- arguments as the code tests them
-
--- a good label and a good clearance have their length
-pub labels_long : (n : ℕ) (l k : List ℕ) (rest : Bool) → (good_label n true l && (good_label n false k && rest)) ≡ true → (length l ≡ label_size) × (length k ≡ label_size)
-labels_long n l k rest good = (
-  good_long n true l (and_l (good_label n true l) (good_label n false k && rest) good),
-  good_long n false k (and_l (good_label n false k) rest (and_r (good_label n true l) (good_label n false k && rest) good)),
-)
 
 module _ (q d : ℕ) where
   -- neither is above a bound of both
@@ -51,9 +41,8 @@ module _ (q d : ℕ) where
 
 -- ---- what admitting asks of the book
 
-pub admissible : (b area : List ℕ) (c t d : ℕ) → Caller b area c t → (k : ℕ) → open_container (view b) t d ≡ Ok k → (code : ℕ) → 1 ≤ code → code ≤ 64
-    → Sound (view b) × Live (view b) k × (1 ≤ code) × (code ≤ 64)
-admissible b area c t d by k e code l n = (sound_by_caller b area c t by, holder_there b area c t d by k e, l, n)
+pub admissible : (b area : List ℕ) (c t d : ℕ) → Caller b area c t → (k : ℕ) → open_container (view b) t d ≡ Ok k → Sound (view b) × Live (view b) k
+admissible b area c t d by k e = (sound_by_caller b area c t by, holder_there b area c t d by k e)
 
 -- ---- the verdict
 

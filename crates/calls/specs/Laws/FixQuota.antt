@@ -48,13 +48,13 @@ module _ (b area : List ℕ) (c t d o : ℕ) (book : List ℕ) (lent : book ≡ 
 
     -- no segment: 6
     pub fix_six : (code_of (view book) p.object ≡ segment_code → ⊥) → Told b area (verdict_on b area c (fix_quota d o)) WrongKind
-    fix_six g = rw (sym lent) (told (from_six ∙ must_failed _ 6 _ (no_segment book area c t d o by p e _ refl g)) by.ready)
+    fix_six g = rw (sym lent) (told (from_six ∙ must_failed _ 6 _ (no_segment book area c t d o by p e g)) by.ready)
 
     module _ (g : code_of (view book) p.object ≡ segment_code) where
       from_seven : verdict_on book area c (fix_quota d o)
           ≡ must_hold (writing (label_of (view book) t) (label_of (view book) p.container) ++ (flow (label_of (view book) t) (label_of (view book) p.object) ∷ [])) (grant 0 [] (alter o fix))
       from_seven =
-          from_six ∙ (must_passed _ 6 _ (segment_here book area c t d o by p e _ refl g)
+          from_six ∙ (must_passed _ 6 _ (segment_here book area c t d o by p e g)
           ∙ (λ i. must_hold (writing (caller_label book area c t by i) (container_label book area c t d o by p e i)
           ++ (flow (caller_label book area c t by i) (its_label book area c t d o by p e i) ∷ [])) (grant 0 [] (alter o fix))))
 

@@ -1,5 +1,6 @@
 -- The way out of a refused call.
-use Rattle.std.specs.Prelude.{ℕ, ◌-◌, ◌≤◌, ◌<◌, true, false, not, ◌≡◌, refl, List, [], ◌∷◌, get_or, length, Result, Ok, Err}
+use Rattle.std.specs.Prelude.{ℕ, ◌-◌, ◌≤◌, ◌<◌, true, false, not, ◌≡◌, refl, List, [], ◌∷◌, get_or, length, Option, Some, None, MatchOption, Result, Ok, Err}
+use Rattle.std.specs.Option.{ok_or}
 use Rattle.std.specs.Result.{IsErr, IsErrAnd}
 use Rattle.std.proofs.lemmas.Bool.{false≢true, lt-leb}
 use Rattle.std.proofs.lemmas.Result.{err_from_is_err_and}
@@ -13,6 +14,7 @@ use Rattle.calls.specs.declared.Refusal.{Refusal}
 use Rattle.calls.specs.declared.Refusal.TheVariants.{BadArea, NumbersEnded, NoCaller, BadArgument, NoEntry, WrongKind, LabelForbids, MaskForbids, QuotaFixed, AlreadyLinked}
 use Rattle.calls.specs.declared.Refusal.TheVariants.{BeyondLength, NinthPair, NoSpare}
 use Rattle.calls.specs.Outcome.{Answer, verdict_on, output_left, number_of, value_in, Ready, ruled, late, Told, Leavable, LeavesBy, Means}
+use Rattle.calls.specs.Laws.Ways.{same_reason, not_both}
 use Rattle.calls.specs.Laws.Prelude.{book_long, done_stopped, done_refused}
 
 -- ---- a number means one refusal
@@ -74,6 +76,12 @@ handed_on r f h = let (g, e, q) = err_from_is_err_and r h.1 in e ∙ ap Err q
 pub told_on : {A : Type 0} {b area : List ℕ} {v : Verdict} (go : A → Type 0) (r : Result A Refusal) {f : Refusal} → IsErr r × IsErrAnd r (λ e. e ≡ f)
     → Told b area v f → Means b area v go r
 told_on {b = b} {area = area} {v = v} go r {f = f} h t = subst (Means b area v go) (sym (handed_on r f h)) t
+
+-- The same where the `?` is of what was found, or of g where nothing is.
+pub told_none : {A B : Type 0} {b area : List ℕ} {v : Verdict} (go : A → Type 0) (r : Result A Refusal) {f : Refusal} → IsErr r × IsErrAnd r (λ e. e ≡ f)
+    → (o : Option B) {bad : Type 0} (well : B → Type 0) (g : Refusal) → MatchOption o bad well → ok_or o g ≡ Err f → (bad → Told b area v g) → Means b area v go r
+told_none go r {f = f} k (Some q) well g h e t = absurd (not_both q f e)
+told_none {b = b} {area = area} {v = v} go r {f = f} k None well g h e t = told_on go r k (subst (Told b area v) (same_reason g f e) (t h))
 
 module _ {b area : List ℕ} {v : Verdict} {r : Refusal} where
   -- a refusal after 1 and 2

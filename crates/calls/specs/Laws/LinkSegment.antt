@@ -77,7 +77,7 @@ module _ (b area : List ℕ) (c t d1 o d : ℕ) (book : List ℕ) (lent : book �
 
     -- no segment: 6
     pub link_six : (code_of (view book) p.object ≡ segment_code → ⊥) → Told b area (verdict_on b area c (link_segment d1 o d)) WrongKind
-    link_six s = rw (sym lent) (told (at_six ∙ must_failed _ 6 _ (no_segment book area c t d1 o by p e _ refl s)) by.ready)
+    link_six s = rw (sym lent) (told (at_six ∙ must_failed _ 6 _ (no_segment book area c t d1 o by p e s)) by.ready)
 
     module _ (s : code_of (view book) p.object ≡ segment_code) where
       forbidden : forbids ((world_of (view book) area).obj d).mask segment ≡ forbids_at (view book) k segment_code
@@ -109,7 +109,7 @@ module _ (b area : List ℕ) (c t d1 o d : ℕ) (book : List ℕ) (lent : book �
           (leb (quota_of (view book) p.object) (spare_at (view book) k)) o d)
       from_seven =
           at_six
-          ∙ must_passed _ 6 _ (segment_here book area c t d1 o by p e _ refl s)
+          ∙ must_passed _ 6 _ (segment_here book area c t d1 o by p e s)
           ∙ (λ i. must_hold (writing (caller_label book area c t by i) (holder_label book area c t d by k g i)
           ++ (flow (its_label book area c t d1 o by p e i) (caller_clearance book area c t by i) ∷ []))
           (from_eight (forbidden i) (fixed_is i) (is_new i) (fitting i) o d))

@@ -5,10 +5,10 @@ use Rattle.calls.proofs.create_segment.create_segment.Goals as goal
 pub make_in-requires : goal.make_in-requires
 make_in-requires c =
     let p = c.in-Ok.ensures in
-    segment_creating _ _ _ _ _ p.1.good _ _ _ c.new_row-row.ensures c.from_bytes.ensures c.or_default.ensures _ _ _ _ _ c.book_in_mut.ensures.value p.0 p.1
+    segment_creating _ _ _ _ _ p.1.0.good _ _ _ c.new_row-row.ensures p.1.1 c.or_default.ensures _ _ _ _ _ c.array_in_mut.ensures.value p.0 p.1.0
 
 pub returns : goal.returns
 returns c =
     let p = c.in-Ok.ensures in
-    segment_done _ _ _ _ _ p.1.good _ _ _ c.new_row-row.ensures c.from_bytes.ensures c.or_default.ensures _ _ _ _ _ c.book_in_mut.ensures.value p.0 p.1
+    segment_done _ _ _ _ _ p.1.0.good _ _ _ c.new_row-row.ensures p.1.1 c.or_default.ensures _ _ _ _ _ c.array_in_mut.ensures.value p.0 p.1.0
     _ (search rules) c.make_in.ensures.b_after _ c.make_in.ensures.value

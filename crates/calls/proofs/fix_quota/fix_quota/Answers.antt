@@ -5,4 +5,4 @@ use Rattle.calls.proofs.fix_quota.fix_quota.Goals as goal
 pub returns : goal.returns
 returns c =
     let n = c.in-Ok.ensures in
-    fix_done _ _ _ _ _ _ n.0 n.1 _ (rw c.book_in_mut-book.ensures.value at c.fix.ensures) _ (omega arith) c.move_on.ensures
+    fix_done _ _ _ _ _ _ n.0 n.1 _ (rw c.array_in_mut-book.ensures.value at c.fix.ensures) _ (omega arith) c.move_on.ensures

@@ -5,4 +5,4 @@ use Rattle.calls.proofs.set_label.judge.Goals as goal
 pub returns : goal.returns
 returns c =
     let (lent, by) = c.in_ok-book.ensures in
-    to_set_label _ _ _ _ _ _ lent by (search rules) (search rules)
+    to_set_label _ _ _ _ _ _ lent by (search rules) _ (search rules) (search rules)

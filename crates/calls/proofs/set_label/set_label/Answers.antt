@@ -1,3 +1,4 @@
+use Rattle.std.specs.Prelude.{refl}
 use Rattle.std.proofs.Common.{arith}
 use Rattle.calls.specs.Laws.Relabel.{relabel_done}
 use Rattle.calls.proofs.set_label.set_label.Goals as goal
@@ -5,6 +6,6 @@ use Rattle.calls.proofs.set_label.set_label.Goals as goal
 pub returns : goal.returns
 returns c =
     let m = c.in-Ok.ensures in
-    let same = c.book_in_mut-book.ensures.value in
-    relabel_done _ _ _ _ _ _ _ _ _ m.0 m.1.relabels _ _ c.from_bytes-taken.ensures (rw same at c.clearance_of-cleared.ensures)
+    let same = c.array_in_mut-book.ensures.value in
+    relabel_done _ _ _ _ _ _ _ _ _ m.0 m.1 _ _ refl (rw same at c.clearance_of-cleared.ensures)
     _ (omega arith) (rw same at c.take_labels.ensures)
