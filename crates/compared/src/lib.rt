@@ -11,6 +11,8 @@ use labels::{Rule, WORDS};
 // The bytes of a lent label.
 const LABEL_SIZE: usize = 1 + WORDS * 8;
 
+// A number, as C has it: 1 or 0, and 2 where a length is wrong.
+
 // Whether T may write O.
 #[tactic(auto, unfolding(crate::specs::Answers::may_write_lent))]
 #[unsafe(no_mangle)]

@@ -46,15 +46,18 @@ fn print(rt: &impl Print, number: u64, caller: u64, call: u64, answer: Answer) -
     }
 }
 
+// What the day's calls are lent: labels with level 1, with level 2 and with level 3 at the category, and a text of zeros.
+#[derive(Clone, Copy)]
+struct Lent<'a> {
+    one: &'a [u8],
+    two: &'a [u8],
+    tainted: &'a [u8],
+    text: &'a [u8],
+}
+
 // Calls 102 to 104: a category, and a container with a segment in it.
-fn grants(
-    rt: &impl Print,
-    b: &mut [u8],
-    area: &mut [u8],
-    tainted: &[u8],
-    text: &[u8],
-) -> io::Result<()>
-    ensures { Plays (λ h. granted h tainted.now text.now) b.old area.old b.new area.new }
+fn grants(rt: &impl Print, b: &mut [u8], area: &mut [u8], lent: Lent) -> io::Result<()>
+    ensures { Plays (λ h. granted h lent.entry.tainted.now lent.entry.text.now) b.old area.old b.new area.new }
 {
     let first = print(rt, 102, 101, 1, create_category(b, area, 101));
     let second = print(
@@ -62,28 +65,21 @@ fn grants(
         103,
         101,
         4,
-        create_container(b, area, 101, 100, tainted, text, 0, 20),
+        create_container(b, area, 101, 100, lent.tainted, lent.text, 0, 20),
     );
     let third = print(
         rt,
         104,
         101,
         5,
-        create_segment(b, area, 101, 103, tainted, text, 0),
+        create_segment(b, area, 101, 103, lent.tainted, lent.text, 0),
     );
     first.and(second).and(third)
 }
 
 // Calls 105 to 107: the segment grows as far as its quota, and the neighbour gets its thread.
-fn grows(
-    rt: &impl Print,
-    b: &mut [u8],
-    area: &mut [u8],
-    one: &[u8],
-    two: &[u8],
-    text: &[u8],
-) -> io::Result<()>
-    ensures { Plays (λ h. peopled h one.now two.now text.now) b.old area.old b.new area.new }
+fn grows(rt: &impl Print, b: &mut [u8], area: &mut [u8], lent: Lent) -> io::Result<()>
+    ensures { Plays (λ h. peopled h lent.entry.one.now lent.entry.two.now lent.entry.text.now) b.old area.old b.new area.new }
 {
     let first = print(rt, 105, 101, 14, resize(b, area, 101, 103, 104, 256));
     let second = print(rt, 106, 101, 14, resize(b, area, 101, 103, 104, 257));
@@ -92,7 +88,7 @@ fn grows(
         107,
         101,
         7,
-        create_thread(b, area, 101, 100, one, two, text),
+        create_thread(b, area, 101, 100, lent.one, lent.two, lent.text),
     );
     first.and(second).and(third)
 }
@@ -108,43 +104,30 @@ fn reads(rt: &impl Print, b: &mut [u8], area: &[u8]) -> io::Result<()>
 }
 
 // Calls 109 to 111: it raises its label, and takes what it can get.
-fn crowds(
-    rt: &impl Print,
-    b: &mut [u8],
-    area: &mut [u8],
-    one: &[u8],
-    tainted: &[u8],
-    text: &[u8],
-) -> io::Result<()>
-    ensures { Plays (λ h. crowded h one.now tainted.now text.now) b.old area.old b.new area.new }
+fn crowds(rt: &impl Print, b: &mut [u8], area: &mut [u8], lent: Lent) -> io::Result<()>
+    ensures { Plays (λ h. crowded h lent.entry.one.now lent.entry.tainted.now lent.entry.text.now) b.old area.old b.new area.new }
 {
-    let first = print(rt, 109, 107, 2, set_label(b, area, 107, tainted));
+    let first = print(rt, 109, 107, 2, set_label(b, area, 107, lent.tainted));
     let second = print(
         rt,
         110,
         107,
         5,
-        create_segment(b, area, 107, 100, one, text, 234),
+        create_segment(b, area, 107, 100, lent.one, lent.text, 234),
     );
     let third = print(
         rt,
         111,
         107,
         5,
-        create_segment(b, area, 107, 100, one, text, 233),
+        create_segment(b, area, 107, 100, lent.one, lent.text, 233),
     );
     first.and(second).and(third)
 }
 
 // Calls 112 to 114: the container still has what it was granted, and no more.
-fn keeps(
-    rt: &impl Print,
-    b: &mut [u8],
-    area: &mut [u8],
-    tainted: &[u8],
-    text: &[u8],
-) -> io::Result<()>
-    ensures { Plays (λ h. kept h tainted.now text.now) b.old area.old b.new area.new }
+fn keeps(rt: &impl Print, b: &mut [u8], area: &mut [u8], lent: Lent) -> io::Result<()>
+    ensures { Plays (λ h. kept h lent.entry.tainted.now lent.entry.text.now) b.old area.old b.new area.new }
 {
     let first = print(rt, 112, 101, 11, move_quota(b, area, 101, 100, 103, 1));
     let second = print(
@@ -152,14 +135,14 @@ fn keeps(
         113,
         101,
         5,
-        create_segment(b, area, 101, 103, tainted, text, 14),
+        create_segment(b, area, 101, 103, lent.tainted, lent.text, 14),
     );
     let third = print(
         rt,
         114,
         101,
         5,
-        create_segment(b, area, 101, 103, tainted, text, 1),
+        create_segment(b, area, 101, 103, lent.tainted, lent.text, 1),
     );
     first.and(second).and(third)
 }
@@ -175,57 +158,34 @@ fn frees(rt: &impl Print, b: &mut [u8], area: &mut [u8]) -> io::Result<()>
 }
 
 // The first half of the day, and the second.
-fn morning(
-    rt: &impl Print,
-    b: &mut [u8],
-    area: &mut [u8],
-    one: &[u8],
-    two: &[u8],
-    tainted: &[u8],
-    text: &[u8],
-) -> io::Result<()>
+fn morning(rt: &impl Print, b: &mut [u8], area: &mut [u8], lent: Lent) -> io::Result<()>
     requires { (length b.old ≡ size) × (length area.old ≡ area_size) }
-    ensures { After (peopled (granted (started 100) tainted.now text.now) one.now two.now text.now) b.new area.new }
+    ensures { After (peopled (granted (started 100) lent.entry.tainted.now lent.entry.text.now) lent.entry.one.now lent.entry.two.now lent.entry.text.now) b.new area.new }
 {
     // Both areas have their lengths, so Start cannot refuse.
     let _ = start(b, area, 100);
-    let granted = grants(rt, b, area, tainted, text);
-    let grown = grows(rt, b, area, one, two, text);
+    let granted = grants(rt, b, area, lent);
+    let grown = grows(rt, b, area, lent);
     granted.and(grown)
 }
 
-fn evening(
-    rt: &impl Print,
-    b: &mut [u8],
-    area: &mut [u8],
-    one: &[u8],
-    tainted: &[u8],
-    text: &[u8],
-) -> io::Result<()>
-    ensures { Plays (λ h. freed (kept (crowded h one.now tainted.now text.now) tainted.now text.now)) b.old
+fn evening(rt: &impl Print, b: &mut [u8], area: &mut [u8], lent: Lent) -> io::Result<()>
+    ensures { Plays (λ h. freed (kept (crowded h lent.entry.one.now lent.entry.tainted.now lent.entry.text.now) lent.entry.tainted.now lent.entry.text.now)) b.old
         area.old b.new area.new }
 {
-    let crowded = crowds(rt, b, area, one, tainted, text);
-    let kept = keeps(rt, b, area, tainted, text);
+    let crowded = crowds(rt, b, area, lent);
+    let kept = keeps(rt, b, area, lent);
     let freed = frees(rt, b, area);
     crowded.and(kept).and(freed)
 }
 
-fn run(
-    rt: &impl Print,
-    b: &mut [u8],
-    area: &mut [u8],
-    one: &[u8],
-    two: &[u8],
-    tainted: &[u8],
-    text: &[u8],
-) -> io::Result<()>
+fn run(rt: &impl Print, b: &mut [u8], area: &mut [u8], lent: Lent) -> io::Result<()>
     requires { (length b.old ≡ size) × (length area.old ≡ area_size) }
-    ensures { After (day one.now two.now tainted.now text.now) b.new area.new }
+    ensures { After (day lent.entry.one.now lent.entry.two.now lent.entry.tainted.now lent.entry.text.now) b.new area.new }
 {
-    let first = morning(rt, b, area, one, two, tainted, text);
+    let first = morning(rt, b, area, lent);
     let noon = reads(rt, b, area);
-    let second = evening(rt, b, area, one, tainted, text);
+    let second = evening(rt, b, area, lent);
     first.and(noon).and(second)
 }
 
@@ -241,5 +201,11 @@ fn main(rt: HostRuntime) -> io::Result<()> {
     let plain = Label::of_default(Label::LEVEL1);
     let label = with_pair(plain, 102, Label::LEVEL3).unwrap_or(plain);
     into_bytes(label, &mut tainted);
-    run(&rt, &mut book, &mut area, &one, &two, &tainted, &text)
+    let lent = Lent {
+        one: &one,
+        two: &two,
+        tainted: &tainted,
+        text: &text,
+    };
+    run(&rt, &mut book, &mut area, lent)
 }

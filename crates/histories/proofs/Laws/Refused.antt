@@ -16,6 +16,7 @@ use Rattle.tables.specs.Layout.Only.{view_only}
 use Rattle.book.specs.Book.{next_of, world_of}
 use Rattle.book.specs.Enact.{moved_on}
 use Rattle.book.specs.Test.{areas_b}
+use Rattle.calls.specs.Outcome.{Answer, number_of, value_in, Said, Done}
 use Rattle.calls.specs.Laws.Prelude.{book_long, book_sound, verdict_one}
 use Rattle.calls.specs.Theorems.Kept.{verdict_is}
 use Rattle.calls.specs.Theorems.Refusals.{refused_value, refused_area, refused_output, stopped_book, refused_book}
@@ -54,6 +55,12 @@ module _ (b : List ℕ) (long : length b ≡ size) where
   only_number h l b' h' e v =
       view_only b' (le_set 8 b 0 (le_at 8 b 0 + 1)) h' (le_set_bytes 8 b 0 (le_at 8 b 0 + 1) h) (v ∙ sym (moved_there l)) (e ∙ long)
       (le_set_length 8 b 0 (le_at 8 b 0 + 1) ∙ long)
+
+-- ---- the contract with the answer of `calls` in place of number and value
+
+pub as_done : (b area : List ℕ) (c : ℕ) (x : Call) (answer value : ℕ) (b' area' : List ℕ) → Said b area c x answer value b' area'
+    → (r : Answer) → number_of r ≡ answer → value_in r ≡ value → Done b area c x r b' area'
+as_done b area c x answer value b' area' s r e f = record { answer_is = e ∙ s.answer_is; value_is = f ∙ s.value_is; left = s.left }
 
 -- ---- the refusal
 
