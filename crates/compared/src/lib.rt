@@ -4,12 +4,9 @@
 ghost use Rattle.std.specs.Prelude.{◌≡◌};
 ghost use Rattle.compared.specs.Answers.{may_write_lent, floor_flows_lent};
 
+use labels::Rule;
 use labels::compare::{compare, may_write};
-use labels::in_place::from_bytes;
-use labels::{Rule, WORDS};
-
-// The bytes of a lent label.
-const LABEL_SIZE: usize = 1 + WORDS * 8;
+use labels::in_place::{LABEL_SIZE, from_bytes};
 
 // A number, as C has it: 1 or 0, and 2 where a length is wrong.
 

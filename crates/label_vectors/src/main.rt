@@ -80,7 +80,7 @@ fn put_pair(out: &mut [u8], at: usize, x: Label, word: u64) -> usize
     match pair::with_pair(x, words::category(word), words::code(word)) {
         None => text::copy(out, at, b"full"),
         Some(paired) => {
-            let mut spelt = [0u8; 65];
+            let mut spelt = [0u8; in_place::LABEL_SIZE];
             bytes::into_bytes(paired, &mut spelt);
             text::hex(out, at, &spelt)
         }
@@ -140,6 +140,7 @@ fn turn(input: &mut impl Read, output: &mut impl Write, first: u64) -> std::io::
     requires { first < 9223372036854775808 }
     ensures { IfOk result (λ n. n ≤ 300) }
 {
+    // an array for all cases and one for all lines, since nothing here allocates
     let mut cases = [0u8; 61200];
     let mut out = [0u8; 45600];
     let got = read_full(input, &mut cases)?;

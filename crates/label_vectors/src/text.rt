@@ -1,5 +1,6 @@
 // Text in a buffer: each function puts it at `at`, leaves every other byte as it was, and answers where the text ends. No String:
-// nothing here allocates.
+// nothing here allocates. What is printed is proved to the byte, which std's formatting does not say: io gives a number's digits, and
+// the others stand here.
 ghost use Rattle.std.specs.Prelude.{◌≡◌, ◌+◌, ◌*◌, ◌≤◌, ◌<◌, length};
 ghost use Rattle.label_vectors.specs.Text.{put, digit_of, hex_of, decimal_of};
 

@@ -9,6 +9,9 @@ use super::{Label, LabelRef, WORDS};
 // The bytes of a label's words.
 const SIZE: usize = WORDS * 8;
 
+// The bytes of a lent label: its default, then its words.
+pub const LABEL_SIZE: usize = 1 + SIZE;
+
 // The label with this default whose words stand in b from `from` on.
 #[tactic(auto, using(crate::specs::Core::InPlace::meant_held))]
 pub fn held(b: &[u8], default: u64, from: usize) -> LabelRef

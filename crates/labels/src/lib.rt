@@ -15,6 +15,7 @@ pub mod number; // number.rt: numbers that bytes spell, of one, two or eight byt
 // How many words a label has.
 pub const WORDS: usize = 8;
 
+// RULES 2.2: "A label consists of a default code and eight words." The pairs among them stand sorted: no collection of std's keeps them so.
 #[derive(Clone, Copy)]
 pub struct Label {
     pub default: u64,

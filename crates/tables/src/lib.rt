@@ -4,7 +4,7 @@
 
 ghost use Rattle.std.specs.Prelude.{◌≡◌, ℕ, ◌+◌, ◌*◌, ◌<◌, ◌≤◌, ◌≢◌, length, get_or, take, drop, MatchOption};
 ghost use Rattle.std.specs.Borrow.{sem, Lends, Array, u8};
-ghost use Rattle.labels.specs.Core.{word_count, spelt};
+ghost use Rattle.labels.specs.Core.{word_count, words_at, spelt};
 ghost use Rattle.tables.specs.Layout.{table_count, w_of, n_of, base, size, view, tab_of, put_t, run_t, empty, Slot, Run};
 
 use labels::WORDS;
@@ -72,7 +72,8 @@ macro_rules! table {
     };
 }
 
-// ---- the tables: the number of each, and where it starts, past the one before it
+// ---- the tables: the number of each, and where it starts, past the one before it. Side by side, not an array of rows: so docs/BOOK.md
+// lays a book out, and hosts outside write it.
 
 // The next number to be issued, and the root's id.
 pub const NEXT: Table<usize, u64> = table!(0);
@@ -257,7 +258,7 @@ pub fn root(b: &Book) -> u64
 
 // ---- numbers in a row
 
-impl Table<usize, u8> {
+impl<I: Place> Table<I, u8> {
     // The bytes of the book that are n numbers of the table, from number i on.
     pub fn run(self, b: &Book, i: usize, n: usize) -> &[u8]
         requires { Run b.now self.number 1 i n }
@@ -268,25 +269,45 @@ impl Table<usize, u8> {
     }
 }
 
-impl Table<usize, u64> {
-    // The bytes of the book that spell as many numbers as a label has words.
-    pub fn words(self, b: &Book, i: usize) -> &[u8]
+impl<I: Place> Table<I, u64> {
+    // Where as many numbers as a label has words begin in the book's bytes.
+    pub fn words_from(self, b: &Book, i: usize) -> usize
         requires { Run b.now self.number 8 i word_count }
-        ensures { (spelt result.now ≡ take word_count (drop i (tab_of (view b.now) self.number))) × (length result.now ≡ word_count * 8) }
+        ensures { (result + word_count * 8 ≤ length b.now) × (words_at word_count b.now result ≡ take word_count (drop i (tab_of (view b.now) self.number))) }
+    {
+        place_of(self.number, i, 8)
+    }
+
+    // The bytes of the book that spell n numbers of the table, from number i on.
+    pub fn words(self, b: &Book, i: usize, n: usize) -> &[u8]
+        requires { Run b.now self.number 8 i n }
+        ensures { (spelt result.now ≡ take n (drop i (tab_of (view b.now) self.number))) × (length result.now ≡ n * 8) }
     {
         let from = place_of(self.number, i, 8);
-        &b[from..from + WORDS * 8]
+        &b[from..from + n * 8]
     }
 }
 
-impl<N: Number> Table<usize, N> {
+impl<I: Place, N: Number> Table<I, N> {
+    // The same table, asked by a number.
+    fn numbered(self) -> Table<usize, N>
+        ensures { result.number ≡ self.number }
+    {
+        Table {
+            number: self.number,
+            by: PhantomData,
+            of: PhantomData,
+        }
+    }
+
     // Puts the numbers of `s` into the table, from number i on.
     pub fn put_run(self, b: &mut Book, i: usize, s: &[N])
         requires { Run b.old self.number N.WIDTH i (length s.now) }
         ensures { view b.new ≡ run_t self.number i (N.values s.now) (view b.old) }
     {
+        let table = self.numbered();
         for j in 0..s.len() {
-            self.put(b, i + j, s[j]);
+            table.put(b, i + j, s[j]);
         }
     }
 }
