@@ -82,6 +82,8 @@ pub fn entry_number_of(b: &Book, r: Row) -> u64
     ENTRY.get(b, r)
 }
 
+// These four are a line each by their names: what asks for a field names it, and no table.
+
 #[tactic(auto, using(crate::specs::Laws::Shapes::label_long))]
 pub fn label_of(b: &Book, r: Row) -> Label
     ensures { result ≡ label_of (view b.now) r }
@@ -138,6 +140,8 @@ fn row_of_kind(b: &Book, kind: Kind, id: u64) -> Option<Row>
     (kind_of(b, r) == Some(kind)).then_some(r)
 }
 
+// Two names, as the rules have two words: a caller is a thread, and what is opened a container.
+
 // The row of the id, if it is a thread's.
 pub fn thread_of(b: &Book, id: u64) -> Option<Row>
     ensures { result ≡ thread_row (view b.now) id }
@@ -156,15 +160,15 @@ pub fn container_of(b: &Book, id: u64) -> Option<Row>
 
 // Whether link l leads from row c to row o.
 #[tactic(auto, unfolding(quotas::specs::Any::both))]
-fn leads_to(b: &Book, c: Row, o: Row, l: usize) -> bool
+fn leads_to(b: &Book, c: Row, o: usize, l: usize) -> bool
     requires { l < link_count }
     ensures { result ≡ leads (view b.now) c o l }
 {
-    LINK_FROM.get(b, l) == u16::from(c) + 1 && LINK_TO.get(b, l) == u16::from(o)
+    LINK_FROM.get(b, l) == u16::from(c) + 1 && usize::from(LINK_TO.get(b, l)) == o
 }
 
-// The lowest live link from row c to row o.
-pub fn link_of(b: &Book, c: Row, o: Row) -> Option<usize>
+// The lowest live link from row c to row o; to a number that is no row there is none.
+pub fn link_of(b: &Book, c: Row, o: usize) -> Option<usize>
     ensures { result ≡ link_between (view b.now) c o }
 {
     (0..LINKS).find(|&l| leads_to(b, c, o, l))
@@ -177,7 +181,7 @@ pub fn entry_of(b: &Book, d: u64, o: u64) -> Option<Entry>
 {
     let container = container_of(b, d)?;
     let object = row_of(b, o)?;
-    let link = link_of(b, container, object)?;
+    let link = link_of(b, container, usize::from(object))?;
     Some(Entry {
         container,
         object,

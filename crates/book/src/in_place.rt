@@ -15,7 +15,7 @@ pub fn label_of(b: &Book, r: Row) -> LabelRef
 {
     LabelRef {
         default: u64::from(LABEL_DEFAULT.get(b, r)),
-        words: LABEL_WORDS.words(b, usize::from(r) * WORDS),
+        words: LABEL_WORDS.words(b, usize::from(r) * WORDS, WORDS),
     }
 }
 
@@ -25,6 +25,6 @@ pub fn clearance_of(b: &Book, r: Row) -> LabelRef
 {
     LabelRef {
         default: u64::from(CLEAR_DEFAULT.get(b, r)),
-        words: CLEAR_WORDS.words(b, usize::from(r) * WORDS),
+        words: CLEAR_WORDS.words(b, usize::from(r) * WORDS, WORDS),
     }
 }

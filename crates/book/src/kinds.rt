@@ -3,7 +3,7 @@ ghost use Rattle.std.specs.Prelude.{◌≡◌};
 ghost use Rattle.book.specs.Book.{is_thread_or_gate};
 ghost use Rattle.book.specs.Kinds.{kind_with};
 
-// In place of a kind's code where the row is free.
+// In place of a kind's code where the row is free: a number, since the table of codes holds it and the kinds' codes alike.
 pub const FREE: u8 = 0;
 
 // RULES 1.1: "An object is of one of four kinds, each with a code: thread (1), gate (2), segment (3),
@@ -28,7 +28,7 @@ impl From<Kind> for u8 {
 }
 
 impl Kind {
-    // The kind that has this code, if one has it.
+    // The kind that has this code, if one has it: a free row's code is no kind's and no error.
     #[tactic(auto, unfolding(crate::specs::Kinds::kind_with))]
     pub fn with_code(code: u8) -> Option<Kind>
         ensures { result ≡ kind_with code }
@@ -47,6 +47,7 @@ impl Kind {
 pub const MAX_MASK: u8 = 15;
 
 // Whether the code of a live row is a thread's or a gate's: these have a clearance, and star may stand in their labels.
+// A code and not a kind: in a book that is not sound it may be no kind's.
 pub fn thread_or_gate(code: u8) -> bool
     ensures { result ≡ is_thread_or_gate code }
 {

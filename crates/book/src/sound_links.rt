@@ -1,4 +1,5 @@
-// Whether the links are as in a sound book, and every row is linked and charged as it should be.
+// Whether the links are as in a sound book, and every row is linked and charged as it should be. A row's
+// kind is its code here: in a book that is not sound it may be no kind's.
 ghost use Rattle.std.specs.Prelude.{◌≡◌, true, not, ℕ, ◌+◌, ◌<◌, get_or, replicate};
 ghost use Rattle.tables.specs.Layout.{view, row_count, link_count};
 ghost use Rattle.book.specs.Book.{mark_of};

@@ -1,4 +1,5 @@
-// Whether each row, by itself, is as in a sound book: ranges, ids and labels.
+// Whether each row, by itself, is as in a sound book: ranges, ids and labels. Its kind is its code here: in a book
+// that is not sound it may be no kind's.
 ghost use Rattle.std.specs.Prelude.{◌≡◌, true, not, ◌+◌, ◌<◌, ◌≤◌, eqb, replicate};
 ghost use Rattle.labels.specs.Core.{meant};
 ghost use Rattle.tables.specs.Layout.{view, row_count};
@@ -19,7 +20,7 @@ use tables::{Book, FIXED, ID, KIND, LEN, MASK, QUOTA, ROWS, Row, next};
 // many ids at equal distances have one each too, whatever the distance, unless that is a multiple of it.
 const MARKS: usize = 2039;
 
-// The bytes that hold them, a bit each.
+// The bytes that hold them, a bit each: booleans would take 1,784 bytes of stack more.
 const MARK_BYTES: usize = MARKS / 8 + 1;
 
 // One past the last number.

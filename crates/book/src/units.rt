@@ -25,7 +25,8 @@ pub fn units(n: u64) -> u64
     1 + (n + UP) / BLOCK
 }
 
-// That the book is sound is said of it here, not by a type: it is so between calls and not within one.
+// That the book is sound is said by each contract, not by a type: a call that writes one has it as bytes, and Sound would have to be shown
+// of each step in between.
 
 // What link l charges the container at row c with.
 #[tactic(auto, unfolding(quotas::specs::Sum::when))]

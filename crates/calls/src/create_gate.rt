@@ -8,7 +8,7 @@ ghost use Rattle.calls.specs.CreateGate.{gate_row_of, GateJudged};
 
 use super::arguments::{good_text, lent_label};
 use super::begin::begin;
-use super::creating::{NewLabels, admit, cleared_allowed, make_in};
+use super::creating::{NewLabels, ONE_UNIT, admit, cleared_allowed, make_in};
 use super::leave::leave;
 use super::lookup::open_container;
 use super::{Answer, Refusal};
@@ -18,9 +18,6 @@ use book::make::NewRow;
 use labels::Label;
 use labels::in_place::value;
 use tables::{Row, array_in_mut};
-
-// RULES 8.6: "As 8.4, with quota 1."
-const QUOTA: u64 = 1;
 
 // The labels of the gate, if all that is lent for it is as it should be.
 fn new_labels<'a>(
@@ -57,7 +54,7 @@ fn judge(
     let new = lent.ok_or(Refusal::BadArgument)?;
     let container = open_container(book, t, d)?;
     let allowed = cleared_allowed(book, t, new.label, new.clearance);
-    let c = admit(book, t, container, Kind::Gate, QUOTA, allowed)?;
+    let c = admit(book, t, container, Kind::Gate, ONE_UNIT, allowed)?;
     Ok((c, value(new.label), value(new.clearance)))
 }
 

@@ -8,7 +8,7 @@ ghost use Rattle.calls.specs.CreateThread.{thread_row_of, ThreadJudged};
 
 use super::arguments::{good_text, lent_label};
 use super::begin::begin;
-use super::creating::{NewLabels, admit, cleared_allowed, make_in};
+use super::creating::{NewLabels, ONE_UNIT, admit, cleared_allowed, make_in};
 use super::leave::leave;
 use super::lookup::open_container;
 use super::{Answer, Refusal};
@@ -18,9 +18,6 @@ use book::make::NewRow;
 use labels::Label;
 use labels::in_place::value;
 use tables::{Row, TEXT_SIZE, array_in_mut};
-
-// RULES 8.7: "As 8.4, with quota 1."
-const QUOTA: u64 = 1;
 
 // The labels of the thread, if all that is lent for it is as it should be.
 fn new_labels<'a>(
@@ -52,7 +49,7 @@ fn judge(
     let new = new_labels(next_of(book), label, clearance, description).ok_or(Refusal::BadArgument)?;
     let container = open_container(book, t, d)?;
     let allowed = cleared_allowed(book, t, new.label, new.clearance);
-    let c = admit(book, t, container, Kind::Thread, QUOTA, allowed)?;
+    let c = admit(book, t, container, Kind::Thread, ONE_UNIT, allowed)?;
     Ok((c, value(new.label), value(new.clearance)))
 }
 

@@ -1,5 +1,5 @@
 // What calls 4 to 7 share: whether a thread may create an object in a container, and the making of it.
-ghost use Rattle.std.specs.Prelude.{◌≡◌};
+ghost use Rattle.std.specs.Prelude.{◌≡◌, ◌≤◌};
 ghost use Rattle.labels.specs.Core.{meant};
 ghost use Rattle.rules.specs.Kernel.{or_default};
 ghost use Rattle.tables.specs.Layout.{view};
@@ -12,7 +12,7 @@ ghost use Rattle.calls.specs.Creating.{plain_conditions, cleared_conditions, adm
 
 use super::Refusal;
 use super::conditions::{ask_two, writing};
-use super::masks::forbids;
+use super::masks::forbids_code;
 use book::find::next_of;
 use book::in_place::{clearance_of, label_of};
 use book::kinds::Kind;
@@ -23,6 +23,9 @@ use tables::{Book, Row};
 
 // RULES 3.7: "The quota given to call 4 or 5 is at most 255, .."
 pub const MAX_QUOTA: u64 = 255;
+
+// RULES 8.6 and 8.7, of a gate and of a thread: "As 8.4, with quota 1."
+pub const ONE_UNIT: u64 = 1;
 
 // RULES 3.7: ".. and 0 stands for a default: .."
 #[tactic(auto, unfolding(rules::specs::Kernel::or_default))]
@@ -63,8 +66,32 @@ pub fn cleared_allowed(b: &Book, t: Row, new: LabelRef, most: LabelRef) -> Resul
     ask_two(Rule::Flows, most, clearance_of(b, t))
 }
 
-// Whether the thread at row t may create an object in the container at row c, by the tests from 7 on: `kind` is the object's, and `allowed` says
-// what its own label conditions came to. Granted with the container's row.
+// Whether the thread at row t may create an object in the container at row c, by the tests from 7 on: `code` is that of the object's kind, and
+// `allowed` says what its own label conditions came to. Granted with the container's row.
+pub fn admit_code(
+    b: &Book,
+    t: Row,
+    c: Row,
+    code: u8,
+    quota: u64,
+    allowed: Result<(), Refusal>,
+) -> Result<Row, Refusal>
+    requires { Sound (view b.now) × Live (view b.now) c × (1 ≤ code) × (code ≤ 64) }
+    ensures { result ≡ admitted (view b.now) t c code quota allowed }
+{
+    writing(label_of(b, t), label_of(b, c))?;
+    allowed?;
+    if forbids_code(b, c, code) {
+        return Err(Refusal::MaskForbids);
+    }
+    if spare_of(b, c) < quota {
+        return Err(Refusal::NoSpare);
+    }
+    Ok(c)
+}
+
+// The same of a kind.
+#[tactic(auto, using(book::specs::Laws::Kinds::code_some, book::specs::Laws::Kinds::code_most))]
 pub fn admit(
     b: &Book,
     t: Row,
@@ -76,15 +103,7 @@ pub fn admit(
     requires { Sound (view b.now) × Live (view b.now) c }
     ensures { result ≡ admitted (view b.now) t c (code_of_kind kind) quota allowed }
 {
-    writing(label_of(b, t), label_of(b, c))?;
-    allowed?;
-    if forbids(b, c, kind) {
-        return Err(Refusal::MaskForbids);
-    }
-    if spare_of(b, c) < quota {
-        return Err(Refusal::NoSpare);
-    }
-    Ok(c)
+    admit_code(b, t, c, u8::from(kind), quota, allowed)
 }
 
 // Makes the object in the container at row c; the number it gets.

@@ -7,7 +7,7 @@ use super::Refusal;
 use book::alter::move_on;
 use tables::array_in_mut;
 
-// RULES 4.2: "Only answers 1 and 2 use up none."
+// RULES 4.2: "Only answers 1 and 2 use up none." A number, since the rules say it of the answers' numbers.
 const LAST_FREE: u64 = 2;
 
 // A refusal's number.

@@ -1,7 +1,8 @@
 // The calls of docs/RULES.md, section 8: each judges, by labels and book, what the rules say of the world that the areas spell, and enacts it.
 #![tactic(auto)]
 
-// A call's areas and arguments come one by one, as C lends them, and its contract speaks of each.
+// A call's areas and arguments come one by one, as C lends them, and its contract speaks of each; a call hands them to its judge as they
+// came, since what the rules say is said of them.
 
 // What a call answers: granted with its value, or refused.
 pub type Answer = Result<u64, Refusal>;

@@ -35,7 +35,7 @@ fn admit(b: &Book, t: Row, c: Row, o: Row) -> Result<(Row, Row), Refusal>
     if !fixed_of(b, o) {
         return Err(Refusal::QuotaFixed);
     }
-    if link_of(b, c, o).is_some() {
+    if link_of(b, c, usize::from(o)).is_some() {
         return Err(Refusal::AlreadyLinked);
     }
     if spare_of(b, c) < quota_of(b, o) {

@@ -1,4 +1,4 @@
-// Call 16: a look at an object.
+// Call 16: a look at an object, whose kind goes as its code, the byte that is put out.
 ghost use Rattle.std.specs.Prelude.{◌≡◌, cond, ◌+◌, ◌*◌, ◌<◌, length};
 ghost use Rattle.labels.specs.Core.{word_count, meant};
 ghost use Rattle.rules.specs.Kernel.{look, look_size};
@@ -64,7 +64,8 @@ fn shown(code: u8, mine: LabelRef, theirs: LabelRef) -> bool
     code != u8::from(Kind::Thread) || may_read(mine, theirs)
 }
 
-// What is put out is a part of a lent slice, and its length is said of it: an array would be made of it for these three alone.
+// The caller's buffer is a slice that C lends, and what is put out is the part behind the description: its length is said of it by these
+// three, since to make an array of it each would need a case that cannot occur.
 
 // Zeros in place of a label.
 fn put_hidden(out: &mut [u8], code: u8)

@@ -54,6 +54,7 @@ pub fn locate(
     Ok((place, count as usize))
 }
 
+// The part is answered, answer and value are put out: so page 01 has the form of this call (docs/DECISIONS.md).
 pub fn read<'a>(
     b: &mut [u8],
     area: &'a [u8],
