@@ -1,5 +1,5 @@
 // The kernel's functions, under the names that C has for them (`flytewood_c` exports each): each thin over one of `calls`, with the whole contract and
-// no requires.
+// no requires. C is answered by numbers, as include/ names them; a Result stops here.
 #![tactic(auto)]
 
 ghost use Rattle.std.specs.Prelude.{◌≡◌, cond, [], eqb, length};

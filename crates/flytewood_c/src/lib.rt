@@ -1,4 +1,5 @@
-// The kernel's C interface: the archive exports each function of `flytewood` under its own name and with its own contract, word for word.
+// The kernel's C interface: the archive exports each function of `flytewood` under its own name and with its own contract, word for word:
+// its answers are C's numbers.
 #![tactic(auto)]
 
 ghost use Rattle.std.specs.Prelude.{◌≡◌, [], length};

@@ -11,7 +11,6 @@ ghost use Rattle.grantday.specs.Steps.{Plays, granted, peopled, looked, crowded,
 
 use book::sound::AREA_LEN;
 use calls::Answer;
-use calls::arguments::LABEL_SIZE;
 use calls::create_category::create_category;
 use calls::create_container::create_container;
 use calls::create_segment::create_segment;
@@ -24,6 +23,7 @@ use calls::start::start;
 use calls::unreference::unreference;
 use labels::Label;
 use labels::bytes::into_bytes;
+use labels::in_place::LABEL_SIZE;
 use labels::pair::with_pair;
 use std::io;
 use tables::{BOOK_LEN, TEXT_SIZE};
