@@ -10,7 +10,7 @@ use std::io;
 use std::io::Read;
 use tables::BOOK_LEN;
 
-// What a command comes to: a verdict to be printed, or nothing.
+// What a command comes to: a verdict to be printed, or nothing. No Option: `obey` answers one of it, and two in one read worse.
 #[derive(Drop)]
 enum Told {
     Verdict(bool),
@@ -18,6 +18,7 @@ enum Told {
 }
 
 // Writes the low `width` bytes of a number at an offset, but for those that would lie past the end.
+// Byte by byte, since the width may be above eight: to_le_bytes has no zeros beyond.
 fn put_number(book: &mut [u8], offset: usize, width: usize, number: u64) {
     let mut rest = number;
     for i in 0..width {

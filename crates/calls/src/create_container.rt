@@ -1,23 +1,21 @@
 // Call 4: a container created in a container.
-ghost use Rattle.std.specs.Prelude.{false, ◌&&◌, ◌≡◌, ◌<◌, ◌≤◌, leb};
+ghost use Rattle.std.specs.Prelude.{◌≡◌, ◌<◌, ◌≤◌};
 ghost use Rattle.std.specs.Int.Bits.{bit_or};
-ghost use Rattle.labels.specs.Core.{label_of, meant};
-ghost use Rattle.rules.specs.Kernel.{good_label, good_text, max_mask, max_quota, create_container};
-ghost use Rattle.calls.specs.Arguments.{LentIf};
+ghost use Rattle.rules.specs.Kernel.{max_mask, create_container};
 ghost use Rattle.calls.specs.Outcome.{Done};
 ghost use Rattle.calls.specs.CreateContainer.{container_row_of, ContainerJudged};
 
-use super::arguments::{good_text, lent_label};
+use super::arguments::good_text;
 use super::begin::begin;
-use super::creating::{MAX_QUOTA, admit, make_in, or_default, plain_allowed};
+use super::creating::{MAX_QUOTA, admit, make_in, new_label, or_default, plain_allowed};
 use super::leave::leave;
 use super::lookup::open_container;
 use super::{Answer, Refusal};
 use book::find::{mask_of, next_of};
 use book::kinds::{Kind, MAX_MASK};
 use book::make::NewRow;
+use labels::Label;
 use labels::in_place::value;
-use labels::{Label, LabelRef};
 use tables::{Row, TEXT_SIZE, array_in_mut};
 
 // The largest mask, as wide as the one that is lent.
@@ -25,20 +23,6 @@ const MASK_MOST: u64 = MAX_MASK as u64;
 
 // RULES 3.7: ".. 0 stands for a default: 8 for a container, 5 for a segment."
 const DEFAULT_QUOTA: u64 = 8;
-
-// The label of the container, if all that is lent for it is as it should be.
-fn new_label<'a>(
-    next: u64,
-    label: &'a [u8],
-    description: &[u8],
-    mask: u64,
-    quota: u64,
-) -> Option<LabelRef<'a>>
-    ensures { LentIf (good_label next false label.now && (good_text description.now && (leb mask max_mask && leb quota max_quota))) (λ l. meant l ≡ label_of label.now) result }
-{
-    let new = lent_label(label, next, false)?;
-    (good_text(description) && mask <= MASK_MOST && quota <= MAX_QUOTA).then_some(new)
-}
 
 #[tactic(auto, using(crate::specs::Laws::CreateContainer::ways_out))]
 fn judge(
@@ -54,7 +38,8 @@ fn judge(
     ensures { ContainerJudged b.now area.now caller d label.now description.now mask quota result }
 {
     let (book, t) = begin(b, area, caller)?;
-    let lent = new_label(next_of(book), label, description, mask, quota);
+    let rest = good_text(description) & ((mask <= MASK_MOST) & (quota <= MAX_QUOTA));
+    let lent = new_label(next_of(book), label, rest);
     let new = lent.ok_or(Refusal::BadArgument)?;
     let container = open_container(book, t, d)?;
     let allowed = plain_allowed(book, t, new);

@@ -1,14 +1,12 @@
 // Call 6: a gate created in a container.
-ghost use Rattle.std.specs.Prelude.{true, false, ◌&&◌, ◌≡◌};
-ghost use Rattle.rules.specs.Kernel.{good_label, good_text, create_gate};
-ghost use Rattle.calls.specs.Arguments.{LentIf};
+ghost use Rattle.std.specs.Prelude.{◌≡◌};
+ghost use Rattle.rules.specs.Kernel.{create_gate};
 ghost use Rattle.calls.specs.Outcome.{Done};
-ghost use Rattle.calls.specs.Creating.{LentPair};
 ghost use Rattle.calls.specs.CreateGate.{gate_row_of, GateJudged};
 
-use super::arguments::{good_text, lent_label};
+use super::arguments::good_text;
 use super::begin::begin;
-use super::creating::{NewLabels, ONE_UNIT, admit, cleared_allowed, make_in};
+use super::creating::{ONE_UNIT, admit, cleared_allowed, make_in, new_labels};
 use super::leave::leave;
 use super::lookup::open_container;
 use super::{Answer, Refusal};
@@ -18,21 +16,6 @@ use book::make::NewRow;
 use labels::Label;
 use labels::in_place::value;
 use tables::{Row, array_in_mut};
-
-// The labels of the gate, if all that is lent for it is as it should be.
-fn new_labels<'a>(
-    next: u64,
-    label: &'a [u8],
-    clearance: &'a [u8],
-    closure: &[u8],
-    description: &[u8],
-) -> Option<NewLabels<'a>>
-    ensures { LentIf (good_label next true label.now && (good_label next false clearance.now && (good_text closure.now && good_text description.now))) (LentPair label.now clearance.now) result }
-{
-    let label = lent_label(label, next, true)?;
-    let clearance = lent_label(clearance, next, false)?;
-    (good_text(closure) && good_text(description)).then_some(NewLabels { label, clearance })
-}
 
 // The entry number may be any, so no test looks at it.
 #[tactic(auto, using(crate::specs::Laws::CreateGate::ways_out))]
@@ -50,7 +33,8 @@ fn judge(
     ensures { GateJudged b.now area.now caller d label.now clearance.now number closure.now description.now result }
 {
     let (book, t) = begin(b, area, caller)?;
-    let lent = new_labels(next_of(book), label, clearance, closure, description);
+    let rest = good_text(closure) & good_text(description);
+    let lent = new_labels(next_of(book), label, clearance, rest);
     let new = lent.ok_or(Refusal::BadArgument)?;
     let container = open_container(book, t, d)?;
     let allowed = cleared_allowed(book, t, new.label, new.clearance);

@@ -1,34 +1,24 @@
 // Call 5: a segment of length 0 created in a container.
-ghost use Rattle.std.specs.Prelude.{false, ◌&&◌, ◌≡◌, ◌<◌, leb};
-ghost use Rattle.labels.specs.Core.{label_of, meant};
-ghost use Rattle.rules.specs.Kernel.{good_label, good_text, max_quota, create_segment};
-ghost use Rattle.calls.specs.Arguments.{LentIf};
+ghost use Rattle.std.specs.Prelude.{◌≡◌, ◌<◌};
+ghost use Rattle.rules.specs.Kernel.{create_segment};
 ghost use Rattle.calls.specs.Outcome.{Done};
 ghost use Rattle.calls.specs.CreateSegment.{segment_row, SegmentJudged};
 
-use super::arguments::{good_text, lent_label};
+use super::arguments::good_text;
 use super::begin::begin;
-use super::creating::{MAX_QUOTA, admit, make_in, or_default, plain_allowed};
+use super::creating::{MAX_QUOTA, admit, make_in, new_label, or_default, plain_allowed};
 use super::leave::leave;
 use super::lookup::open_container;
 use super::{Answer, Refusal};
 use book::find::next_of;
 use book::kinds::Kind;
 use book::make::NewRow;
+use labels::Label;
 use labels::in_place::value;
-use labels::{Label, LabelRef};
 use tables::{Row, TEXT_SIZE, array_in_mut};
 
 // RULES 3.7: ".. 0 stands for a default: 8 for a container, 5 for a segment."
 const DEFAULT_QUOTA: u64 = 5;
-
-// The label of the segment, if all that is lent for it is as it should be.
-fn new_label<'a>(next: u64, label: &'a [u8], description: &[u8], quota: u64) -> Option<LabelRef<'a>>
-    ensures { LentIf (good_label next false label.now && (good_text description.now && leb quota max_quota)) (λ l. meant l ≡ label_of label.now) result }
-{
-    let new = lent_label(label, next, false)?;
-    (good_text(description) && quota <= MAX_QUOTA).then_some(new)
-}
 
 #[tactic(auto, using(crate::specs::Laws::CreateSegment::ways_out))]
 fn judge(
@@ -43,7 +33,8 @@ fn judge(
     ensures { SegmentJudged b.now area.now caller d label.now description.now quota result }
 {
     let (book, t) = begin(b, area, caller)?;
-    let new = new_label(next_of(book), label, description, quota).ok_or(Refusal::BadArgument)?;
+    let rest = good_text(description) & (quota <= MAX_QUOTA);
+    let new = new_label(next_of(book), label, rest).ok_or(Refusal::BadArgument)?;
     let container = open_container(book, t, d)?;
     let allowed = plain_allowed(book, t, new);
     let units = or_default(quota, DEFAULT_QUOTA);

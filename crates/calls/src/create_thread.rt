@@ -1,14 +1,12 @@
 // Call 7: a thread created in a container.
-ghost use Rattle.std.specs.Prelude.{true, false, ◌&&◌, ◌≡◌};
-ghost use Rattle.rules.specs.Kernel.{good_label, good_text, create_thread};
-ghost use Rattle.calls.specs.Arguments.{LentIf};
+ghost use Rattle.std.specs.Prelude.{◌≡◌};
+ghost use Rattle.rules.specs.Kernel.{create_thread};
 ghost use Rattle.calls.specs.Outcome.{Done};
-ghost use Rattle.calls.specs.Creating.{LentPair};
 ghost use Rattle.calls.specs.CreateThread.{thread_row_of, ThreadJudged};
 
-use super::arguments::{good_text, lent_label};
+use super::arguments::good_text;
 use super::begin::begin;
-use super::creating::{NewLabels, ONE_UNIT, admit, cleared_allowed, make_in};
+use super::creating::{ONE_UNIT, admit, cleared_allowed, make_in, new_labels};
 use super::leave::leave;
 use super::lookup::open_container;
 use super::{Answer, Refusal};
@@ -18,20 +16,6 @@ use book::make::NewRow;
 use labels::Label;
 use labels::in_place::value;
 use tables::{Row, TEXT_SIZE, array_in_mut};
-
-// The labels of the thread, if all that is lent for it is as it should be.
-fn new_labels<'a>(
-    next: u64,
-    label: &'a [u8],
-    clearance: &'a [u8],
-    description: &[u8],
-) -> Option<NewLabels<'a>>
-    ensures { LentIf (good_label next true label.now && (good_label next false clearance.now && good_text description.now)) (LentPair label.now clearance.now) result }
-{
-    let label = lent_label(label, next, true)?;
-    let clearance = lent_label(clearance, next, false)?;
-    good_text(description).then_some(NewLabels { label, clearance })
-}
 
 #[tactic(auto, using(crate::specs::Laws::CreateThread::ways_out))]
 fn judge(
@@ -46,7 +30,8 @@ fn judge(
     ensures { ThreadJudged b.now area.now caller d label.now clearance.now description.now result }
 {
     let (book, t) = begin(b, area, caller)?;
-    let new = new_labels(next_of(book), label, clearance, description).ok_or(Refusal::BadArgument)?;
+    let rest = good_text(description);
+    let new = new_labels(next_of(book), label, clearance, rest).ok_or(Refusal::BadArgument)?;
     let container = open_container(book, t, d)?;
     let allowed = cleared_allowed(book, t, new.label, new.clearance);
     let c = admit(book, t, container, Kind::Thread, ONE_UNIT, allowed)?;

@@ -1,16 +1,19 @@
 // What calls 4 to 7 share: whether a thread may create an object in a container, and the making of it.
-ghost use Rattle.std.specs.Prelude.{◌≡◌, ◌≤◌};
+ghost use Rattle.std.specs.Prelude.{true, false, ◌&&◌, ◌≡◌, ◌≤◌};
+ghost use Rattle.labels.specs.Core as core;
 ghost use Rattle.labels.specs.Core.{meant};
-ghost use Rattle.rules.specs.Kernel.{or_default};
+ghost use Rattle.rules.specs.Kernel.{or_default, good_label};
 ghost use Rattle.tables.specs.Layout.{view};
 ghost use Rattle.book.specs.Book.{next_of, label_of, clearance_of};
 ghost use Rattle.book.specs.Kinds.{code_of_kind};
 ghost use Rattle.book.specs.Make.{object_of, created_in, Creating};
 ghost use Rattle.book.specs.Sound.{Sound, Live};
+ghost use Rattle.calls.specs.Arguments.{LentIf};
 ghost use Rattle.calls.specs.Conditions.{tested};
-ghost use Rattle.calls.specs.Creating.{plain_conditions, cleared_conditions, admitted};
+ghost use Rattle.calls.specs.Creating.{LentPair, plain_conditions, cleared_conditions, admitted};
 
 use super::Refusal;
+use super::arguments::lent_label;
 use super::conditions::{ask_two, writing};
 use super::masks::forbids_code;
 use book::find::next_of;
@@ -43,6 +46,28 @@ pub fn or_default(quota: u64, default: u64) -> u64
 pub struct NewLabels<'a> {
     pub label: LabelRef<'a>,
     pub clearance: LabelRef<'a>,
+}
+
+// The label of a new object without a clearance, if it and what else is lent, as `rest` says, are as they should be.
+pub fn new_label(next: u64, label: &[u8], rest: bool) -> Option<LabelRef>
+    ensures { LentIf (good_label next false label.now && rest) (λ l. meant l ≡ core.label_of label.now) result }
+{
+    let new = lent_label(label, next, false)?;
+    rest.then_some(new)
+}
+
+// The labels of one with a clearance, in which star may stand in the label.
+pub fn new_labels<'a>(
+    next: u64,
+    label: &'a [u8],
+    clearance: &'a [u8],
+    rest: bool,
+) -> Option<NewLabels<'a>>
+    ensures { LentIf (good_label next true label.now && (good_label next false clearance.now && rest)) (LentPair label.now clearance.now) result }
+{
+    let label = lent_label(label, next, true)?;
+    let clearance = lent_label(clearance, next, false)?;
+    rest.then_some(NewLabels { label, clearance })
 }
 
 // The label conditions of a new object without a clearance, beside that of writing the container: the thread at row t flows to the label, and that to
