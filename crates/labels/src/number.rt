@@ -88,9 +88,10 @@ impl Number for u64 {
     ghost each = { get_or_default_zero };
 
     fn get(b: &[u8], from: usize) -> u64 {
-        let mut bytes = [0; 8];
-        bytes.copy_from_slice(&b[from..from + 8]);
-        u64::from_le_bytes(bytes)
+        let Some(bytes) = b[from..from + 8].as_array() else {
+            unreachable!()
+        };
+        u64::from_le_bytes(*bytes)
     }
 
     fn put(self, b: &mut [u8], from: usize) {
