@@ -4,12 +4,18 @@ ghost use Rattle.rules.specs.Kernel.{block_size, max_block};
 ghost use Rattle.tables.specs.Layout.{view};
 ghost use Rattle.book.specs.Book.{block_at};
 ghost use Rattle.calls.specs.declared.Refusal.TheVariants.{BadArgument};
+ghost use Rattle.labels.specs.Core.{meant};
+ghost use Rattle.calls.specs.Access.{asked};
+ghost use Rattle.calls.specs.Conditions.{tested};
 ghost use Rattle.calls.specs.Part.{part_at};
 
 use super::Refusal;
+use super::conditions::{reading, writing};
 use book::blocks::block_of;
 use book::find::{kind_of, len_of};
+use book::in_place::label_of;
 use book::kinds::Kind;
+use labels::LabelRef;
 use tables::{Book, Row};
 
 // RULES 8.12: "4 if k is above 253, .."
@@ -55,20 +61,26 @@ fn place_of(b: &Book, r: Row, part: Part) -> usize
     BLOCK_SIZE as usize * usize::from(block) + part.from as usize
 }
 
-// Where the part of the object at row r begins in the data area, by the tests from 6 on; `allowed` is what test 7 comes to.
+// RULES 8.12: "7 unless T may read S." 8.13: "7 unless T may write S."
+#[tactic(auto, unfolding(crate::specs::Access::asked))]
+fn allowed(mine: LabelRef, theirs: LabelRef, writes: bool) -> Result<(), Refusal>
+    ensures { result ≡ tested (asked writes (meant mine.entry) (meant theirs.entry)) }
+{
+    if writes {
+        return writing(mine, theirs);
+    }
+    reading(mine, theirs)
+}
+
+// Where the thread at row t may read, or write, the part of the object at row r, by the tests from 6 on: with the place in the data area.
 #[tactic(auto, using(book::specs::Laws::Kinds::kind_eq_is))]
-pub fn find_part(
-    b: &Book,
-    r: Row,
-    part: Part,
-    allowed: Result<(), Refusal>,
-) -> Result<usize, Refusal>
-    ensures { result ≡ part_at (view b.now) r part.block part.from part.count allowed }
+pub fn find_part(b: &Book, t: Row, r: Row, part: Part, writes: bool) -> Result<usize, Refusal>
+    ensures { result ≡ part_at (view b.now) t r part.block part.from part.count writes }
 {
     if kind_of(b, r) != Some(Kind::Segment) {
         return Err(Refusal::WrongKind);
     }
-    allowed?;
+    allowed(label_of(b, t), label_of(b, r), writes)?;
     if len_of(b, r) < BLOCK_SIZE * part.block + part.from + part.count {
         return Err(Refusal::BeyondLength);
     }

@@ -3,13 +3,11 @@ ghost use Rattle.calls.specs.Read.{LocatedAs, Shown, ReadJudged};
 
 use super::Refusal;
 use super::begin::begin;
-use super::conditions::reading;
 use super::leave::leave;
 use super::lookup::open_entry;
 use super::part::{Part, find_part};
 use super::spread::spread;
 use book::alter::move_on;
-use book::in_place::label_of;
 use tables::array_in_mut;
 
 #[tactic(auto, using(crate::specs::Laws::Read::ways_out))]
@@ -28,8 +26,7 @@ fn judge(
     let (book, t) = begin(b, area, caller)?;
     let part = Part::of(k, from, count)?;
     let place = open_entry(book, t, d, s)?;
-    let allowed = reading(label_of(book, t), label_of(book, place.object));
-    find_part(book, place.object, part, allowed)
+    find_part(book, t, place.object, part, false)
 }
 
 // The call as numbers: the place and the count of the part. The next number moves on.

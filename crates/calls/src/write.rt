@@ -4,14 +4,12 @@ ghost use Rattle.calls.specs.Outcome.{Done};
 ghost use Rattle.calls.specs.Write.{WriteJudged};
 
 use super::begin::begin;
-use super::conditions::writing;
 use super::leave::leave;
 use super::lookup::open_entry;
 use super::part::{Part, find_part};
 use super::{Answer, Refusal};
 use book::alter::move_on;
 use book::area::write_area;
-use book::in_place::label_of;
 use tables::array_in_mut;
 
 #[tactic(auto, using(crate::specs::Laws::Write::ways_out))]
@@ -34,8 +32,7 @@ fn judge(
         return Err(Refusal::BadArgument);
     }
     let place = open_entry(book, t, d, s)?;
-    let allowed = writing(label_of(book, t), label_of(book, place.object));
-    find_part(book, place.object, part, allowed)
+    find_part(book, t, place.object, part, true)
 }
 
 #[tactic(auto, using(crate::specs::Laws::Leave::leavable, crate::specs::Laws::Prelude::book_long, crate::specs::Laws::Write::can_write))]

@@ -4,14 +4,12 @@ use Rattle.std.proofs.Common.{sym, subst, ◌∙◌, leb-true, eqb-true}
 use Rattle.std.proofs.Math.Path.{ap}
 use Rattle.rules.specs.Kernel.{segment_code, Verdict, must, block_size}
 use Rattle.tables.specs.Layout.{view}
-use Rattle.book.specs.Book.{code_of, len_of, label_of}
+use Rattle.book.specs.Book.{code_of, len_of}
 use Rattle.calls.specs.declared.Refusal.{Refusal}
 use Rattle.calls.specs.declared.Refusal.TheVariants.{WrongKind, BeyondLength}
 use Rattle.book.specs.declared.find.Entry.{Entry}
 use Rattle.calls.specs.Outcome.{Means, Told}
 use Rattle.calls.specs.Begun.{Caller}
-use Rattle.calls.specs.Conditions.{tested}
-use Rattle.calls.specs.Access.{asked}
 use Rattle.calls.specs.Lookup.{open_entry}
 use Rattle.calls.specs.Part.{part_on, Lies, part_at}
 use Rattle.calls.specs.Laws.Access.{access_five, access_at, segment_length}
@@ -28,7 +26,7 @@ module _ (b area : List ℕ) (c t d s k f n : ℕ) (by : Caller b area c t) (wri
 
   pub part_judged : (go : ℕ → Type 0) → ((p : ℕ) → Lies b s k f n p → v ≡ rest → go p)
       → (p : Entry) → open_entry (view b) t d s ≡ Ok p → (x : Result ℕ Refusal)
-      → x ≡ part_at (view b) p.object k f n (tested (asked writes (label_of (view b) t) (label_of (view b) p.object))) → Means b area v go x
+      → x ≡ part_at (view b) t p.object k f n writes → Means b area v go x
   part_judged go granted p e x ex =
       let r = p.object in
       let row = object_found b area c t d s by p e in

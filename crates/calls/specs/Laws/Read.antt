@@ -7,9 +7,9 @@ use Rattle.std.proofs.Math.Path.{sym, ap}
 use Rattle.std.proofs.Math.ListN.{take}
 use Rattle.std.specs.Borrow.{Bor}
 use Rattle.rules.specs.Kernel as kernel
-use Rattle.rules.specs.Kernel.{Verdict, grant, judge, read, reading, keep, good_arguments, answer_of, value_of, output_of, block_size, max_block}
+use Rattle.rules.specs.Kernel.{Verdict, grant, judge, read, keep, good_arguments, answer_of, value_of, output_of, block_size, max_block}
 use Rattle.tables.specs.Layout.{view}
-use Rattle.book.specs.Book.{label_of, block_at, row_of, world_of}
+use Rattle.book.specs.Book.{block_at, row_of, world_of}
 use Rattle.book.specs.Enact.{moved_on, enact_view, enact_area}
 use Rattle.book.specs.Laws.First.{on_at}
 use Rattle.book.specs.Laws.Tie.{row_is}
@@ -19,7 +19,6 @@ use Rattle.calls.specs.declared.Refusal.TheVariants.{BadArgument}
 use Rattle.book.specs.declared.find.Entry.{Entry}
 use Rattle.calls.specs.Outcome.{verdict_on, Ready, ruled, Told, LeavesBy}
 use Rattle.calls.specs.Begun.{Caller}
-use Rattle.calls.specs.Conditions.{tested}
 use Rattle.calls.specs.Lookup.{open_entry}
 use Rattle.calls.specs.Part.{part_on, part_at}
 use Rattle.calls.specs.Read.{ToRead, ReadJudged, PartAt, NoPart, place_in, begins_at, Shown}
@@ -49,7 +48,7 @@ module _ (b area : List ℕ) (c t d s k f n : ℕ) (book : List ℕ) (lent : boo
 
     -- one that is found: what 12 and 13 share decides
     pub read_judged : (p : Entry) → open_entry (view book) t d s ≡ Ok p → (x : Result ℕ Refusal)
-        → x ≡ part_at (view book) p.object k f n (tested (reading (label_of (view book) t) (label_of (view book) p.object))) → ReadJudged b area c d s k f n x
+        → x ≡ part_at (view book) t p.object k f n false → ReadJudged b area c d s k f n x
     read_judged p e x ex =
         rw (sym lent)
         (part_judged book area c t d s k f n by false one _ _ judged (ToRead book area c d s k f n)

@@ -5,9 +5,9 @@ use Rattle.std.proofs.Common.{arith, sym, ap, ap₂, subst, le-leb, ◌∙◌}
 use Rattle.std.proofs.lemmas.Bool.{false≢true}
 use Rattle.std.proofs.lemmas.List.Edits.{sets}
 use borrow.Author.Tests.{eq-eqb, ne_eqb}
-use Rattle.rules.specs.Kernel.{grant, judge, write, writing, alter, rewrite, overwrite, good_arguments, block_size, max_block}
+use Rattle.rules.specs.Kernel.{grant, judge, write, alter, rewrite, overwrite, good_arguments, block_size, max_block}
 use Rattle.tables.specs.Layout.{view}
-use Rattle.book.specs.Book.{len_of, label_of, block_at, bytes_of, world_of}
+use Rattle.book.specs.Book.{len_of, block_at, bytes_of, world_of}
 use Rattle.book.specs.Enact.{area_size, moved_on, enact_view, enact_area}
 use Rattle.book.specs.Laws.Shapes.{view_shape}
 use Rattle.book.specs.Laws.Tie.{row_is}
@@ -18,7 +18,6 @@ use Rattle.calls.specs.declared.Refusal.TheVariants.{BadArgument}
 use Rattle.book.specs.declared.find.Entry.{Entry}
 use Rattle.calls.specs.Outcome.{verdict_on, Ready, Told, Done}
 use Rattle.calls.specs.Begun.{Caller}
-use Rattle.calls.specs.Conditions.{tested}
 use Rattle.calls.specs.Lookup.{open_entry}
 use Rattle.calls.specs.Part.{part_on, part_at}
 use Rattle.calls.specs.Write.{ToWrite, WriteJudged}
@@ -68,7 +67,7 @@ module _ (b area : List ℕ) (c t d s k f n : ℕ) (bytes : List ℕ) (book : Li
 
       -- one that is found: what 12 and 13 share decides
       pub write_judged : (p : Entry) → open_entry (view book) t d s ≡ Ok p → (x : Result ℕ Refusal)
-          → x ≡ part_at (view book) p.object k f n (tested (writing (label_of (view book) t) (label_of (view book) p.object))) → WriteJudged b area c d s k f n bytes x
+          → x ≡ part_at (view book) t p.object k f n true → WriteJudged b area c d s k f n bytes x
       write_judged p e x ex =
           rw (sym lent)
           (part_judged book area c t d s k f n by true one _ _ judged (ToWrite book area c d s k f n bytes)
