@@ -38,3 +38,12 @@ quota_for (Out m) q = q - m
 abbrev pub Reckoned : Amount → ℕ → Type 0
 Reckoned (In m) q = m ≤ root_quota
 Reckoned (Out m) q = m ≤ q
+
+-- the same of what a signed number comes to: over the limit q stays
+abbrev pub quota_if : Result Amount Refusal → ℕ → ℕ
+quota_if (Ok u) q = quota_for u q
+quota_if (Err r) q = q
+
+abbrev pub ReckonedIf : Result Amount Refusal → ℕ → Type 0
+ReckonedIf (Ok u) q = Reckoned u q
+ReckonedIf (Err r) q = 0 ≤ q

@@ -58,6 +58,15 @@ abbrev pub value_in : Answer → ℕ
 value_in (Ok v) = v
 value_in (Err r) = 0
 
+-- the same of an answer by numbers alone, which any number may refuse
+abbrev pub number_told : Result ℕ ℕ → ℕ
+number_told (Ok v) = 0
+number_told (Err k) = k
+
+abbrev pub value_told : Result ℕ ℕ → ℕ
+value_told (Ok v) = v
+value_told (Err k) = 0
+
 -- What a call on areas b and area leaves as b' and area'. Equal views of books of the right length are equal bytes (tables' view_only); where the areas are refused,
 -- the book is the same bytes whatever its length.
 pub record Left (b area : List ℕ) (c : ℕ) (x : Call) (b' area' : List ℕ) : Type 0 where
@@ -75,6 +84,9 @@ pub record Said (b area : List ℕ) (c : ℕ) (x : Call) (answer value : ℕ) (b
 -- and of its answer.
 abbrev pub Done : List ℕ → List ℕ → ℕ → Call → Answer → List ℕ → List ℕ → Type 0
 Done b area c x r b' area' = Said b area c x (number_of r) (value_in r) b' area'
+
+abbrev pub DoneBy : List ℕ → List ℕ → ℕ → Call → Result ℕ ℕ → List ℕ → List ℕ → Type 0
+DoneBy b area c x r b' area' = Said b area c x (number_told r) (value_told r) b' area'
 
 -- The same with an output buffer, which held `out` and then holds `out'`.
 abbrev pub DoneWith : List ℕ → List ℕ → ℕ → Call → List ℕ → Answer → List ℕ → List ℕ → List ℕ → Type 0

@@ -1,7 +1,7 @@
 // A signed number of units as an unsigned one and which way it goes.
 ghost use Rattle.std.specs.Prelude.{◌≡◌, ◌≤◌};
 ghost use Rattle.rules.specs.Kernel.{root_quota};
-ghost use Rattle.calls.specs.Amount.{amount_of, quota_for, Reckoned};
+ghost use Rattle.calls.specs.Amount.{amount_of, quota_for, quota_if, Reckoned, ReckonedIf};
 
 use super::Refusal;
 
@@ -38,5 +38,16 @@ pub fn moved(q: u64, units: Amount) -> u64
     match units {
         Amount::In(m) => q + m,
         Amount::Out(m) => q - m,
+    }
+}
+
+// The same of what a signed number comes to: one over the limit moves nothing.
+pub fn moved_if(q: u64, units: Result<Amount, Refusal>) -> u64
+    requires { (q ≤ root_quota) × ReckonedIf units q }
+    ensures { result ≡ quota_if units q }
+{
+    match units {
+        Ok(amount) => moved(q, amount),
+        Err(_) => q,
     }
 }

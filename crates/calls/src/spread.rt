@@ -1,21 +1,27 @@
 // An answer as two numbers.
 ghost use Rattle.std.specs.Prelude.{◌≡◌};
-ghost use Rattle.calls.specs.Outcome.{number_of, value_in};
+ghost use Rattle.calls.specs.Outcome.{number_of, value_in, number_told, value_told};
 
 use super::Answer;
 
-// Spreads an answer into its number (RULES 6) and value.
+// Spreads an answer of numbers alone, which any number may refuse, into its number (RULES 6) and value.
+pub fn spread_numbers(answer: Result<u64, u64>, value: &mut u64) -> u64
+    ensures { (result ≡ number_told answer) × (value.new ≡ value_told answer) }
+{
+    let (number, given) = match answer {
+        Ok(v) => (0, v),
+        Err(number) => (number, 0),
+    };
+    *value = given;
+    number
+}
+
+// The same of a call's answer.
 pub fn spread(answer: Answer, value: &mut u64) -> u64
     ensures { (result ≡ number_of answer) × (value.new ≡ value_in answer) }
 {
     match answer {
-        Ok(v) => {
-            *value = v;
-            0
-        }
-        Err(r) => {
-            *value = 0;
-            u64::from(r)
-        }
+        Ok(v) => spread_numbers(Ok(v), value),
+        Err(r) => spread_numbers(Err(u64::from(r)), value),
     }
 }

@@ -1,5 +1,5 @@
 -- The way out of a refused call.
-use Rattle.std.specs.Prelude.{ℕ, ◌-◌, ◌≤◌, ◌<◌, true, false, not, ◌≡◌, refl, List, [], ◌∷◌, get_or, length, Option, Some, None, MatchOption, Result, Ok, Err}
+use Rattle.std.specs.Prelude.{ℕ, zero, suc, ◌-◌, ◌≤◌, ◌<◌, true, false, not, ◌≡◌, refl, List, [], ◌∷◌, get_or, length, Option, Some, None, MatchOption, Result, Ok, Err}
 use Rattle.std.specs.Option.{ok_or}
 use Rattle.std.specs.Result.{IsErr, IsErrAnd}
 use Rattle.std.proofs.lemmas.Bool.{false≢true, lt-leb}
@@ -20,7 +20,7 @@ use Rattle.calls.specs.Laws.Prelude.{book_long, done_stopped, done_refused}
 -- ---- a number means one refusal
 
 -- the refusal that has it, for numbers from 1 to 13
-numbered : ℕ → Refusal
+pub numbered : ℕ → Refusal
 numbered n =
     get_or (BadArea ∷ NumbersEnded ∷ NoCaller ∷ BadArgument ∷ NoEntry ∷ WrongKind ∷ LabelForbids ∷ MaskForbids ∷ QuotaFixed ∷ AlreadyLinked ∷ BeyondLength ∷ NinthPair ∷ NoSpare ∷ [])
     (n - 1) NoSpare
@@ -40,6 +40,24 @@ back_to AlreadyLinked = refl
 back_to BeyondLength = refl
 back_to NinthPair = refl
 back_to NoSpare = refl
+
+pub numbered_is : (n : ℕ) → 1 ≤ n → n ≤ 13 → kernel.number_of (ruled (numbered n)) ≡ n
+unfolding numbered
+numbered_is zero l m = absurd (omega arith)
+numbered_is (suc zero) l m = refl
+numbered_is (suc (suc zero)) l m = refl
+numbered_is (suc (suc (suc zero))) l m = refl
+numbered_is (suc (suc (suc (suc zero)))) l m = refl
+numbered_is (suc (suc (suc (suc (suc zero))))) l m = refl
+numbered_is (suc (suc (suc (suc (suc (suc zero)))))) l m = refl
+numbered_is (suc (suc (suc (suc (suc (suc (suc zero))))))) l m = refl
+numbered_is (suc (suc (suc (suc (suc (suc (suc (suc zero)))))))) l m = refl
+numbered_is (suc (suc (suc (suc (suc (suc (suc (suc (suc zero))))))))) l m = refl
+numbered_is (suc (suc (suc (suc (suc (suc (suc (suc (suc (suc zero)))))))))) l m = refl
+numbered_is (suc (suc (suc (suc (suc (suc (suc (suc (suc (suc (suc zero))))))))))) l m = refl
+numbered_is (suc (suc (suc (suc (suc (suc (suc (suc (suc (suc (suc (suc zero)))))))))))) l m = refl
+numbered_is (suc (suc (suc (suc (suc (suc (suc (suc (suc (suc (suc (suc (suc zero))))))))))))) l m = refl
+numbered_is (suc (suc (suc (suc (suc (suc (suc (suc (suc (suc (suc (suc (suc (suc n)))))))))))))) l m = absurd (omega arith)
 
 pub ruled_once : (r s : Refusal) → kernel.number_of (ruled r) ≡ kernel.number_of (ruled s) → r ≡ s
 ruled_once r s e = sym (back_to r) ∙ ap numbered e ∙ back_to s
@@ -124,7 +142,7 @@ module _ {A : Type 0} (b : List ℕ) (r : Refusal) (n : ℕ) (e : n ≡ kernel.n
         length_same = refl;
         moved = λ t. absurd (false≢true (sym (is_early r n e l) ∙ t));
         kept = λ t. refl;
-        done = λ area c x t. done_stopped b area c x r t.verdict (subst (λ (m : ℕ). m ≤ 2) e l);
+        done = λ area c x t. done_stopped b area c x (ruled r) _ refl t.verdict (subst (λ (m : ℕ). m ≤ 2) e l);
         output = λ area c x t. output_kept (verdict_on b area c x) _ t.verdict;
       }
 
@@ -136,6 +154,6 @@ module _ {A : Type 0} (b : List ℕ) (r : Refusal) (n : ℕ) (e : n ≡ kernel.n
         length_same = long;
         moved = λ t. m;
         kept = λ t. absurd (false≢true (sym t ∙ is_late r n e l));
-        done = λ area c x t. done_refused b area c x (t.ready (is_late r n e l)) b' long r t.verdict (subst (λ (m : ℕ). 2 < m) e l) m;
+        done = λ area c x t. done_refused b area c x (t.ready (is_late r n e l)) b' long (ruled r) _ refl t.verdict (subst (λ (m : ℕ). 2 < m) e l) m;
         output = λ area c x t. output_kept (verdict_on b area c x) _ t.verdict;
       }

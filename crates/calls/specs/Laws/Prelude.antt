@@ -1,7 +1,7 @@
 -- What every call's judging begins with, and what its tests make of the verdict.
-use Rattle.std.specs.Prelude.{ℕ, ◌≤◌, ◌<◌, Bool, true, false, ◌&&◌, ◌≡◌, refl, List, length, eqb, Ok, Err}
+use Rattle.std.specs.Prelude.{ℕ, ◌≤◌, ◌<◌, Bool, true, false, ◌&&◌, ◌≡◌, refl, List, length, eqb, Ok}
 use Rattle.std.proofs.lemmas.Bool.{false≢true}
-use Rattle.std.proofs.Common.{sym, ◌∙◌}
+use Rattle.std.proofs.Common.{sym, subst, ◌∙◌}
 use borrow.Author.Tests.{le-leb, lt-leb, eqb-true}
 use Rattle.rules.specs.Kernel as kernel
 use Rattle.rules.specs.Kernel.{by, number_of, value_with, Verdict, refused, refuse, grant, unless, must, Call, Change, call, tests, judge, is_thread, good_arguments}
@@ -15,8 +15,7 @@ use Rattle.book.specs.Test.{areas_b, sound_b}
 use Rattle.book.proofs.Laws.Means.{sound_means}
 use Rattle.book.specs.Laws.Shapes.{view_shape}
 use Rattle.book.specs.Laws.WorldSound.{world_sound}
-use Rattle.calls.specs.declared.Refusal.{Refusal}
-use Rattle.calls.specs.Outcome.{verdict_on, book_left, area_left, Done, Ready, ruled}
+use Rattle.calls.specs.Outcome.{verdict_on, book_left, area_left, Said, Done, Ready}
 
 -- ---- must
 
@@ -100,29 +99,29 @@ no_value (by k) = refl
 
 module _ (b area : List ℕ) (c : ℕ) (x : Call) where
   -- refused by 1 or 2: nothing changed
-  pub done_stopped : (r : Refusal) → verdict_on b area c x ≡ refused (ruled r) → number_of (ruled r) ≤ 2 → Done b area c x (Err r) b area
+  pub done_stopped : (f : kernel.Refusal) (n : ℕ) → n ≡ number_of f → verdict_on b area c x ≡ refused f → n ≤ 2 → Said b area c x n 0 b area
   unfolding book_left area_left answer_of value_of
-  done_stopped r e l =
+  done_stopped f n i e l =
       record {
-        answer_is = rw e;
-        value_is = rw e (sym (no_value (ruled r)));
-        left = record { length_same = refl; book_kept = λ g. refl; book_left_lem = λ g. rw (e, le-leb (number_of (ruled r)) 2 l); area_left_lem = rw e };
+        answer_is = rw e i;
+        value_is = rw e (sym (no_value f));
+        left = record { length_same = refl; book_kept = λ g. refl; book_left_lem = λ g. rw (e, le-leb (number_of f) 2 (subst (λ m. m ≤ 2) i l)); area_left_lem = rw e };
       }
 
   module _ (ready : Ready b area) (b' : List ℕ) (long : length b' ≡ length b) where
     -- refused by a later number: the number moved on
-    pub done_refused : (r : Refusal) → verdict_on b area c x ≡ refused (ruled r) → 2 < number_of (ruled r) → view b' ≡ moved_on (view b)
-        → Done b area c x (Err r) b' area
+    pub done_refused : (f : kernel.Refusal) (n : ℕ) → n ≡ number_of f → verdict_on b area c x ≡ refused f → 2 < n → view b' ≡ moved_on (view b)
+        → Said b area c x n 0 b' area
     unfolding book_left area_left answer_of value_of
-    done_refused r e l m =
+    done_refused f n i e l m =
         record {
-          answer_is = rw e;
-          value_is = rw e (sym (no_value (ruled r)));
+          answer_is = rw e i;
+          value_is = rw e (sym (no_value f));
           left =
               record {
                 length_same = long;
                 book_kept = λ g. absurd (false≢true (sym g ∙ ready.areas));
-                book_left_lem = λ g. rw (e, lt-leb (number_of (ruled r)) 2 l) m;
+                book_left_lem = λ g. rw (e, lt-leb (number_of f) 2 (subst (λ k. 2 < k) i l)) m;
                 area_left_lem = rw e;
               };
         }

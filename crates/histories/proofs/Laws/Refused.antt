@@ -16,9 +16,10 @@ use Rattle.tables.specs.Layout.Only.{view_only}
 use Rattle.book.specs.Book.{next_of, world_of}
 use Rattle.book.specs.Enact.{moved_on}
 use Rattle.book.specs.Test.{areas_b}
-use Rattle.calls.specs.Outcome.{Answer, number_of, value_in, Said, Done}
+use Rattle.calls.specs.Outcome.{Answer, verdict_on, number_of, value_in, Said, Done, DoneBy}
 use Rattle.calls.specs.Laws.Prelude.{book_long, book_sound, verdict_one}
 use Rattle.calls.specs.Theorems.Kept.{verdict_is}
+use Rattle.calls.specs.Theorems.OneRead.{answer_for, done_for, answer_on}
 use Rattle.calls.specs.Theorems.Refusals.{refused_value, refused_area, refused_output, stopped_book, refused_book}
 use Rattle.flytewood.specs.Called.{Bytes, Called}
 use Rattle.histories.specs.Demands.{Refusal}
@@ -59,8 +60,20 @@ module _ (b : List ℕ) (long : length b ≡ size) where
 -- ---- the contract with the answer of `calls` in place of number and value
 
 pub as_done : (b area : List ℕ) (c : ℕ) (x : Call) (answer value : ℕ) (b' area' : List ℕ) → Said b area c x answer value b' area'
+    → DoneBy b area c x (answer_for (verdict_on b area c x)) b' area'
+as_done b area c x answer value b' area' s = done_for b area c x b' area' s.left
+
+-- and of any answer that has both
+pub as_answered : (b area : List ℕ) (c : ℕ) (x : Call) (answer value : ℕ) (b' area' : List ℕ) → Said b area c x answer value b' area'
     → (r : Answer) → number_of r ≡ answer → value_in r ≡ value → Done b area c x r b' area'
-as_done b area c x answer value b' area' s r e f = record { answer_is = e ∙ s.answer_is; value_is = f ∙ s.value_is; left = s.left }
+as_answered b area c x answer value b' area' s r e f = record { answer_is = e ∙ s.answer_is; value_is = f ∙ s.value_is; left = s.left }
+
+-- which there is
+pub answered : (b area : List ℕ) (c : ℕ) (x : Call) (answer value : ℕ) (b' area' : List ℕ) → Said b area c x answer value b' area'
+    → (r : Answer) × (number_of r ≡ answer) × (value_in r ≡ value) × Done b area c x r b' area'
+answered b area c x answer value b' area' s =
+    let (r, e, f) = answer_on b area c x in
+    (r, e ∙ sym s.answer_is, f ∙ sym s.value_is, record { answer_is = e; value_is = f; left = s.left })
 
 -- ---- the refusal
 
