@@ -58,10 +58,10 @@ module _ (b area : List ℕ) (c t : ℕ) (by : Caller b area c t) where
   pub placed_by_caller : Placed (view b)
   placed_by_caller = placed (view b) sound_by_caller
 
-  caller_is_thread : is_thread ((world_of (view b) area).obj c).kind ≡ true
+  pub caller_is_thread : is_thread ((world_of (view b) area).obj c).kind ≡ true
   caller_is_thread = (thread_found (view b) area c t by.row).0
 
-  caller_object : (world_of (view b) area).obj c ≡ object_at (view b) area t
+  pub caller_object : (world_of (view b) area).obj c ≡ object_at (view b) area t
   caller_object = (thread_found (view b) area c t by.row).1
 
   caller_code : code_of (view b) t ≡ thread_code

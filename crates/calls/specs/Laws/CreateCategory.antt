@@ -25,7 +25,7 @@ use Rattle.calls.specs.Laws.Ways.{tried_ok, tried_none}
 
 module _ (n : ℕ) (c : Label) where
   -- the default stays
-  cleared_default : (cleared_at n c).default ≡ c.default
+  pub cleared_default : (cleared_at n c).default ≡ c.default
   unfolding cleared_at
   cleared_default = go (eqb c.default level3)
     where
@@ -47,7 +47,7 @@ module _ (b area : List ℕ) (c t : ℕ) (by : Caller b area c t) where
       (cleared_at (world_next (view b) area i) (caller_clearance b area c t by i))))))
 
   -- no room in the label: 12
-  label_twelve : has_room (label_of (view b) t) ≡ false → verdict_on b area c create_category ≡ refuse 12
+  pub label_twelve : has_room (label_of (view b) t) ≡ false → verdict_on b area c create_category ≡ refuse 12
   label_twelve e = judged ∙ must_failed _ 12 _ (ap (λ (x : Bool). x && clears_b (clearance_of (view b) t)) e)
 
   module _ (room : has_room (label_of (view b) t) ≡ true) where
@@ -55,7 +55,7 @@ module _ (b area : List ℕ) (c t : ℕ) (by : Caller b area c t) where
     both_asked = ap (λ (x : Bool). x && clears_b (clearance_of (view b) t)) room
 
     -- none in the clearance: 12
-    clearance_twelve : clears_b (clearance_of (view b) t) ≡ false → verdict_on b area c create_category ≡ refuse 12
+    pub clearance_twelve : clears_b (clearance_of (view b) t) ≡ false → verdict_on b area c create_category ≡ refuse 12
     clearance_twelve e = judged ∙ must_failed _ 12 _ (both_asked ∙ e)
 
     -- granted

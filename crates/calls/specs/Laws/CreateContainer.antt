@@ -134,7 +134,7 @@ module _ (n : ℕ) (l s : List ℕ) (d m q : ℕ) (good : good_arguments n (crea
         ∙ ap (container_row_of (core.label_of l) (bit_or m (mask_of (view b) i))) h
 
     -- what is handed over is the container
-    container_whole : Handed row s (replicate text_size 0)
+    pub container_whole : Handed row s (replicate text_size 0)
     container_whole =
         subst (λ (z : NewRow). Handed z s (replicate text_size 0)) (sym row_is)
         (container_handed (core.label_of l) s (good_default n false l label_good) (label_of_length l)

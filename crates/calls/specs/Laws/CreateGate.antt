@@ -105,13 +105,13 @@ module _ (n : ℕ) (l k x s : List ℕ) (d i : ℕ) (good : good_arguments n (cr
     row_is = e ∙ ap₂ (λ (u w : Label). gate_row_of u w i) f g
 
     -- what is handed over is the gate
-    gate_whole : Handed row s x
+    pub gate_whole : Handed row s x
     gate_whole =
         subst (λ (z : NewRow). Handed z s x) (sym row_is)
         (gate_handed (core.label_of l) s (good_default n true l label_good) (label_of_length l) (good_text_long s (and_r (good_text x) (good_text s) texts_good))
         (core.label_of k) (good_default n false k clearance_good) (label_of_length k) i x (good_text_long x (and_l (good_text x) (good_text s) texts_good)))
 
-    gate_object : object_of row s x ≡ new_gate l k i x s
+    pub gate_object : object_of row s x ≡ new_gate l k i x s
     gate_object = ap (λ (z : NewRow). object_of z s x) row_is ∙ row_is_gate (core.label_of l) (core.label_of k) i s x
 
     -- so it can be made, and the call is done by it

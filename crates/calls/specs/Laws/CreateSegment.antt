@@ -106,12 +106,12 @@ module _ (n : ℕ) (l s : List ℕ) (d q : ℕ) (good : good_arguments n (create
     row_is = e ∙ ap₂ segment_row f g
 
     -- what is handed over is the segment
-    segment_whole : Handed row s (replicate text_size 0)
+    pub segment_whole : Handed row s (replicate text_size 0)
     segment_whole =
         subst (λ (z : NewRow). Handed z s (replicate text_size 0)) (sym row_is)
         (segment_handed (core.label_of l) s (good_default n false l label_good) (label_of_length l) (good_text_long s (and_l (good_text s) (leb q max_quota) rest_good)) (or_default q segment_default))
 
-    segment_object : object_of row s (replicate text_size 0) ≡ new_segment l s q
+    pub segment_object : object_of row s (replicate text_size 0) ≡ new_segment l s q
     segment_object = ap (λ (z : NewRow). object_of z s (replicate text_size 0)) row_is ∙ row_is_segment (core.label_of l) (or_default q segment_default) s (replicate text_size 0)
 
     -- so it can be made, and the call is done by it

@@ -102,13 +102,13 @@ module _ (n : ℕ) (l k s : List ℕ) (d : ℕ) (good : good_arguments n (create
     row_is = e ∙ ap₂ thread_row_of f g
 
     -- what is handed over is the thread
-    thread_whole : Handed row s (replicate text_size 0)
+    pub thread_whole : Handed row s (replicate text_size 0)
     thread_whole =
         subst (λ (z : NewRow). Handed z s (replicate text_size 0)) (sym row_is)
         (thread_handed (core.label_of l) s (good_default n true l label_good) (label_of_length l) (good_text_long s (and_r (good_label n false k) (good_text s) rest_good))
         (core.label_of k) (good_default n false k clearance_good) (label_of_length k))
 
-    thread_object : object_of row s (replicate text_size 0) ≡ new_thread l k s
+    pub thread_object : object_of row s (replicate text_size 0) ≡ new_thread l k s
     thread_object = ap (λ (z : NewRow). object_of z s (replicate text_size 0)) row_is ∙ row_is_thread (core.label_of l) (core.label_of k) s (replicate text_size 0)
 
     -- so it can be made, and the call is done by it

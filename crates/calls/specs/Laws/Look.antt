@@ -38,7 +38,7 @@ module _ (v : View) (t d o : ℕ) where
   place_own e = ap (λ (x : Bool). cond x (open_container v t d) (object_at_place (open_entry v t d o))) (eq-eqb o d e)
 
   -- another object: where the entry has it
-  place_other : (o ≡ d → ⊥) → open_look v t d o ≡ object_at_place (open_entry v t d o)
+  pub place_other : (o ≡ d → ⊥) → open_look v t d o ≡ object_at_place (open_entry v t d o)
   unfolding open_look
   place_other ne = ap (λ (x : Bool). cond x (open_container v t d) (object_at_place (open_entry v t d o))) (ne_eqb o d ne)
 

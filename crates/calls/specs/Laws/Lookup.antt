@@ -33,7 +33,7 @@ use Rattle.calls.specs.Laws.Prelude.{must_failed}
 -- ---- a container
 
 module _ (v : View) (t d : ℕ) where
-  none_shut : container_row v d ≡ None → open_container v t d ≡ Err NoEntry
+  pub none_shut : container_row v d ≡ None → open_container v t d ≡ Err NoEntry
   unfolding open_container
   none_shut e = on_nothing (container_row v d) (λ c. cond (may_read (label_of v t) (label_of v c)) (Ok c) (Err NoEntry)) (Err NoEntry) e
 
@@ -42,10 +42,10 @@ module _ (v : View) (t d : ℕ) where
     unfolding open_container
     decided = on_at (container_row v d) k (λ c. cond (may_read (label_of v t) (label_of v c)) (Ok c) (Err NoEntry)) (Err NoEntry) e
 
-    unreadable_shut : may_read (label_of v t) (label_of v k) ≡ false → open_container v t d ≡ Err NoEntry
+    pub unreadable_shut : may_read (label_of v t) (label_of v k) ≡ false → open_container v t d ≡ Err NoEntry
     unreadable_shut f = decided ∙ ap (λ (x : Bool). cond x (Ok k) (Err NoEntry)) f
 
-    readable_open : may_read (label_of v t) (label_of v k) ≡ true → open_container v t d ≡ Ok k
+    pub readable_open : may_read (label_of v t) (label_of v k) ≡ true → open_container v t d ≡ Ok k
     readable_open f = decided ∙ ap (λ (x : Bool). cond x (Ok k) (Err NoEntry)) f
 
   -- by whether it is open: by what the row's container is, or shut
@@ -56,7 +56,7 @@ module _ (v : View) (t d : ℕ) where
       (λ e. miss (none_shut e))
 
   -- What is open is a container, and readable.
-  open_is : (k : ℕ) → open_container v t d ≡ Ok k → (container_row v d ≡ Some k) × (may_read (label_of v t) (label_of v k) ≡ true)
+  pub open_is : (k : ℕ) → open_container v t d ≡ Ok k → (container_row v d ≡ Some k) × (may_read (label_of v t) (label_of v k) ≡ true)
   open_is k h =
       open_cases {C = (container_row v d ≡ Some k) × (may_read (label_of v t) (label_of v k) ≡ true)}
       (λ i e f. let z = same_value i k (sym (readable_open i e f) ∙ h) in (e ∙ ap Some z, subst (λ (j : ℕ). may_read (label_of v t) (label_of v j) ≡ true) z f))

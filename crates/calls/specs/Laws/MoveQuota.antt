@@ -38,11 +38,11 @@ use Rattle.calls.specs.declared.Refusal.TheVariants.{WrongKind, QuotaFixed, NoSp
 -- ---- the tests of code
 
 -- whether a quota is fixed
-fixed_other : (v : View) (r n : ℕ) → n ≡ code_of v r → (n ≡ segment_code → ⊥) → false ≡ is_fixed v r
+pub fixed_other : (v : View) (r n : ℕ) → n ≡ code_of v r → (n ≡ segment_code → ⊥) → false ≡ is_fixed v r
 unfolding is_fixed
 fixed_other v r n e ne = sym (ap (λ a. cond a (eqb (fixed_of v r) 1) false) (ne_eqb (code_of v r) segment_code (λ q. ne (e ∙ q))))
 
-fixed_segment : (v : View) (r n : ℕ) → n ≡ code_of v r → n ≡ segment_code → eqb (fixed_of v r) 1 ≡ is_fixed v r
+pub fixed_segment : (v : View) (r n : ℕ) → n ≡ code_of v r → n ≡ segment_code → eqb (fixed_of v r) 1 ≡ is_fixed v r
 unfolding is_fixed
 fixed_segment v r n e q = sym (ap (λ a. cond a (eqb (fixed_of v r) 1) false) (eq-eqb (code_of v r) segment_code (sym e ∙ q)))
 
