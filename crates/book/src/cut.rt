@@ -7,7 +7,7 @@ ghost use Rattle.book.specs.Cut.{blocks_swept, block_swept, area_swept};
 
 use super::alter::move_on;
 use super::area::{Area, clear_block};
-use super::find::kind_of;
+use super::find::kind_at;
 use super::kinds::{FREE, Kind};
 use super::numbers::row_of;
 use tables::{Block, Book, ID, KIND, LINK_FROM, LINK_TO, LINKS, OWNER, ROWS, Row, root};
@@ -23,7 +23,7 @@ fn turn_off(b: &mut Book, l: usize) -> usize
 {
     let o = LINK_TO.get(b, l);
     LINK_FROM.put(b, l, 0);
-    if kind_of(b, o as Row) != Some(Kind::Container) {
+    if kind_at(b, o as Row) != Some(Kind::Container) {
         return l + 1;
     }
     let mut mark = o + 1;
