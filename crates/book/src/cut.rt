@@ -10,7 +10,9 @@ use super::area::{Area, clear_block};
 use super::find::kind_at;
 use super::kinds::{FREE, Kind};
 use super::numbers::row_of;
-use tables::{Block, Book, ID, KIND, LINK_FROM, LINK_TO, LINKS, OWNER, ROWS, Row, root};
+use tables::{
+    Block, Book, ID, KIND, LAST_BLOCK, LAST_ROW, LINK_FROM, LINK_TO, LINKS, OWNER, ROWS, Row, root,
+};
 
 // ---- links
 
@@ -79,7 +81,7 @@ fn drop_rows(b: &mut Book, held: &[bool; ROWS])
     ensures { view b.new ≡ rows_freed held.now (view b.old) }
 {
     let top = root(b);
-    for r in 0..=Row::MAX {
+    for r in 0..=LAST_ROW {
         drop_row(b, r, top, held[usize::from(r)]);
     }
 }
@@ -118,7 +120,7 @@ fn sweep_blocks(b: &mut Book, area: &mut Area)
     requires { Blocked b.old }
     ensures { (view b.new ≡ blocks_swept (view b.old)) × (area.new ≡ area_swept (view b.old) area.old) }
 {
-    for i in 0..=Block::MAX {
+    for i in 0..=LAST_BLOCK {
         drop_block(b, area, i);
     }
 }

@@ -11,8 +11,8 @@ use super::kinds::{FREE, Kind};
 use labels::Label;
 use labels::in_place::value;
 use tables::{
-    Book, CLOSURE, DESCRIPTION, ENTRY, FIXED, ID, KIND, LEN, LINK_FROM, LINK_TO, LINKS, MASK,
-    QUOTA, Row, TEXT_SIZE,
+    Book, CLOSURE, DESCRIPTION, ENTRY, FIXED, ID, KIND, LAST_ROW, LEN, LINK_FROM, LINK_TO, LINKS,
+    MASK, QUOTA, Row, TEXT_SIZE,
 };
 
 // Where an object stands in a container: the two rows and the link between them.
@@ -135,7 +135,7 @@ pub fn has_id(b: &Book, id: u64, r: Row) -> bool
 pub fn row_of(b: &Book, id: u64) -> Option<Row>
     ensures { result ≡ row_of (view b.now) id }
 {
-    (0..=Row::MAX).find(|&r| has_id(b, id, r))
+    (0..=LAST_ROW).find(|&r| has_id(b, id, r))
 }
 
 // The row of the id, if it is of this kind.

@@ -9,8 +9,8 @@ use super::alter::{move_on, relabel};
 use super::kinds::FREE;
 use labels::Label;
 use tables::{
-    Book, CLOSURE, DESCRIPTION, ENTRY, FIXED, ID, KIND, LEN, LINK_FROM, LINK_TO, LINKS, MASK,
-    QUOTA, Row, TEXT_SIZE, next,
+    Book, CLOSURE, DESCRIPTION, ENTRY, FIXED, ID, KIND, LAST_ROW, LEN, LINK_FROM, LINK_TO, LINKS,
+    MASK, QUOTA, Row, TEXT_SIZE, next,
 };
 
 // What a new row holds; what its kind does not have is 0. Its texts go beside it: a definition gives the whole of it, and cannot name
@@ -31,7 +31,7 @@ pub struct NewRow {
 pub fn free_row(b: &Book) -> Option<Row>
     ensures { result ≡ free_row (view b.now) }
 {
-    (0..=Row::MAX).find(|&r| KIND.get(b, r) == FREE)
+    (0..=LAST_ROW).find(|&r| KIND.get(b, r) == FREE)
 }
 
 pub fn free_link(b: &Book) -> Option<usize>
