@@ -8,7 +8,7 @@ ghost use Rattle.calls.specs.Part.{part_at};
 
 use super::Refusal;
 use book::blocks::block_of;
-use book::find::{kind_of, len_of};
+use book::find::{kind_at, len_of};
 use book::kinds::Kind;
 use tables::{Book, Row};
 
@@ -65,7 +65,7 @@ pub fn find_part(
 ) -> Result<usize, Refusal>
     ensures { result ≡ part_at (view b.now) r part.block part.from part.count allowed }
 {
-    if kind_of(b, r) != Some(Kind::Segment) {
+    if kind_at(b, r) != Some(Kind::Segment) {
         return Err(Refusal::WrongKind);
     }
     allowed?;
