@@ -2,22 +2,21 @@
 -- a link leave, by rows.
 use Rattle.std.specs.Prelude.{ℕ, ◌+◌, ◌<◌, ◌≤◌, ◌≡◌, List, length, replicate, Option, Some, None}
 use Rattle.labels.specs.Core.{word_count, plain, level1, level2}
-use Rattle.rules.specs.Kernel.{Obj, text_size, last_number, root_quota, plain_object}
+use Rattle.rules.specs.Kernel.{thread_code, container_code, Obj, kind_code, text_size, last_number, root_quota, plain_object}
 use Rattle.tables.specs.Layout.{View, row_count, size, view, next_t, root_t, id_t, kind_t, mask_t, fixed_t, quota_t, len_t, entry_t, empty, put_t}
-use Rattle.book.specs.declared.kinds.Kind.TheVariants.{Thread, Container}
 use Rattle.book.specs.declared.make.NewRow.{NewRow}
-use Rattle.book.specs.Book.{next_of, on_found, of_kind}
-use Rattle.book.specs.Kinds.{rules_kind}
+use Rattle.book.specs.Book.{next_of, on_found, kind_from, of_kind}
 use Rattle.book.specs.Enact.{moved_on, padded, free_row, free_link, row_filled, link_filled}
 
 -- ---- the object that a new row is
 
--- of its kind, with s as its description and x as its closure
+-- by its kind's code, with s as its description and x as its closure; a code that no kind has makes it absent
 unfoldable pub object_of : NewRow → List ℕ → List ℕ → Obj
-object_of n s x = of_kind (plain_object (rules_kind n.kind) n.label n.clearance n.quota n.mask n.entry s x)
+object_of n s x = of_kind (plain_object (kind_from n.kind) n.label n.clearance n.quota n.mask n.entry s x)
 
 -- What is handed over is what the object has, and zero where its kind has nothing.
 pub record Handed (n : NewRow) (s x : List ℕ) : Type 0 where
+  pub code : kind_code (object_of n s x).kind ≡ n.kind
   pub mask : (object_of n s x).mask ≡ n.mask
   pub quota : (object_of n s x).quota ≡ n.quota
   pub entry : (object_of n s x).entry ≡ n.entry
@@ -34,10 +33,10 @@ pub record Handed (n : NewRow) (s x : List ℕ) : Type 0 where
 
 -- the root that Start makes, and its thread
 abbrev pub root_row : NewRow
-root_row = record { kind = Container; mask = 0; quota = root_quota; entry = 0; label = plain level1; clearance = plain 0 }
+root_row = record { kind = container_code; mask = 0; quota = root_quota; entry = 0; label = plain level1; clearance = plain 0 }
 
 abbrev pub thread_row : NewRow
-thread_row = record { kind = Thread; mask = 0; quota = 1; entry = 0; label = plain level1; clearance = plain level2 }
+thread_row = record { kind = thread_code; mask = 0; quota = 1; entry = 0; label = plain level1; clearance = plain level2 }
 
 -- ---- what the changes leave, by rows
 

@@ -4,7 +4,7 @@ ghost use Rattle.tables.specs.Layout.{view, block_count};
 ghost use Rattle.book.specs.Book.{is_block, owner_of, first};
 ghost use Rattle.book.specs.Enact.{free_block};
 
-use tables::{Block, Book, INDEX, OWNER, Row};
+use tables::{Block, Book, INDEX, LAST_BLOCK, OWNER, Row};
 
 // Whether block x is block k of the segment at row r.
 #[tactic(auto, unfolding(quotas::specs::Any::both))]
@@ -18,7 +18,7 @@ fn is_block(b: &Book, r: Row, k: usize, x: Block) -> bool
 pub fn block_of(b: &Book, r: Row, k: usize) -> Option<Block>
     ensures { result ≡ first block_count (is_block (view b.now) r k) }
 {
-    (0..=Block::MAX).find(|&x| is_block(b, r, k, x))
+    (0..=LAST_BLOCK).find(|&x| is_block(b, r, k, x))
 }
 
 // Whether block x is free.
@@ -32,5 +32,5 @@ fn is_free(b: &Book, x: Block) -> bool
 pub fn free_block(b: &Book) -> Option<Block>
     ensures { result ≡ free_block (view b.now) }
 {
-    (0..=Block::MAX).find(|&x| is_free(b, x))
+    (0..=LAST_BLOCK).find(|&x| is_free(b, x))
 }

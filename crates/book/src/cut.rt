@@ -7,10 +7,12 @@ ghost use Rattle.book.specs.Cut.{blocks_swept, block_swept, area_swept};
 
 use super::alter::move_on;
 use super::area::{Area, clear_block};
-use super::find::kind_of;
+use super::find::kind_at;
 use super::kinds::{FREE, Kind};
 use super::numbers::row_of;
-use tables::{Block, Book, ID, KIND, LINK_FROM, LINK_TO, LINKS, OWNER, ROWS, Row, root};
+use tables::{
+    Block, Book, ID, KIND, LAST_BLOCK, LAST_ROW, LINK_FROM, LINK_TO, LINKS, OWNER, ROWS, Row, root,
+};
 
 // ---- links
 
@@ -23,7 +25,7 @@ fn turn_off(b: &mut Book, l: usize) -> usize
 {
     let o = LINK_TO.get(b, l);
     LINK_FROM.put(b, l, 0);
-    if kind_of(b, o as Row) != Some(Kind::Container) {
+    if kind_at(b, o as Row) != Some(Kind::Container) {
         return l + 1;
     }
     let mut mark = o + 1;
@@ -79,7 +81,7 @@ fn drop_rows(b: &mut Book, held: &[bool; ROWS])
     ensures { view b.new ≡ rows_freed held.now (view b.old) }
 {
     let top = root(b);
-    for r in 0..=Row::MAX {
+    for r in 0..=LAST_ROW {
         drop_row(b, r, top, held[usize::from(r)]);
     }
 }
@@ -118,7 +120,7 @@ fn sweep_blocks(b: &mut Book, area: &mut Area)
     requires { Blocked b.old }
     ensures { (view b.new ≡ blocks_swept (view b.old)) × (area.new ≡ area_swept (view b.old) area.old) }
 {
-    for i in 0..=Block::MAX {
+    for i in 0..=LAST_BLOCK {
         drop_block(b, area, i);
     }
 }

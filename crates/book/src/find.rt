@@ -11,8 +11,8 @@ use super::kinds::{FREE, Kind};
 use labels::Label;
 use labels::in_place::value;
 use tables::{
-    Book, CLOSURE, DESCRIPTION, ENTRY, FIXED, ID, KIND, LEN, LINK_FROM, LINK_TO, LINKS, MASK,
-    QUOTA, Row, TEXT_SIZE,
+    Book, CLOSURE, DESCRIPTION, ENTRY, FIXED, ID, KIND, LAST_ROW, LEN, LINK_FROM, LINK_TO, LINKS,
+    MASK, QUOTA, Row, TEXT_SIZE,
 };
 
 // Where an object stands in a container: the two rows and the link between them.
@@ -43,11 +43,18 @@ pub fn id_of(b: &Book, r: Row) -> u64
     ID.get(b, r)
 }
 
+// The code of the row's kind as it stands there, in a book that is not sound too: a free row has FREE, and a code may be no kind's.
+pub fn kind_of(b: &Book, r: Row) -> u8
+    ensures { result ≡ code_of (view b.now) r }
+{
+    KIND.get(b, r)
+}
+
 // The kind of the row's object: none where the row is free, or its code is no kind's.
-pub fn kind_of(b: &Book, r: Row) -> Option<Kind>
+pub fn kind_at(b: &Book, r: Row) -> Option<Kind>
     ensures { result ≡ kind_with (code_of (view b.now) r) }
 {
-    Kind::with_code(KIND.get(b, r))
+    Kind::with_code(kind_of(b, r))
 }
 
 pub fn mask_of(b: &Book, r: Row) -> u64
@@ -128,7 +135,7 @@ pub fn has_id(b: &Book, id: u64, r: Row) -> bool
 pub fn row_of(b: &Book, id: u64) -> Option<Row>
     ensures { result ≡ row_of (view b.now) id }
 {
-    (0..=Row::MAX).find(|&r| has_id(b, id, r))
+    (0..=LAST_ROW).find(|&r| has_id(b, id, r))
 }
 
 // The row of the id, if it is of this kind.
@@ -137,7 +144,7 @@ fn row_of_kind(b: &Book, kind: Kind, id: u64) -> Option<Row>
     ensures { result ≡ row_of_kind (code_of_kind kind) (view b.now) id }
 {
     let r = row_of(b, id)?;
-    (kind_of(b, r) == Some(kind)).then_some(r)
+    (kind_at(b, r) == Some(kind)).then_some(r)
 }
 
 // Two names, as the rules have two words: a caller is a thread, and what is opened a container.

@@ -1,5 +1,5 @@
-// A row's label and clearance where the book holds them, for all that only looks at them.
-ghost use Rattle.std.specs.Prelude.{◌≡◌};
+// A row's label and clearance where the book holds them, for all that only looks at them: their bytes, and none more.
+ghost use Rattle.std.specs.Prelude.{◌≡◌, ◌*◌, length};
 ghost use Rattle.labels.specs.Core.{meant};
 ghost use Rattle.tables.specs.Layout.{view};
 ghost use Rattle.book.specs.Book.{label_of, clearance_of};
@@ -11,7 +11,8 @@ use tables::{Book, CLEAR_DEFAULT, CLEAR_WORDS, LABEL_DEFAULT, LABEL_WORDS, Row};
 
 #[tactic(auto, using(labels::specs::Core::InPlace::meant_is))]
 pub fn label_of(b: &Book, r: Row) -> LabelRef
-    ensures { meant result ≡ label_of (view b.now) r }
+    ensures means { meant result ≡ label_of (view b.now) r }
+    ensures exact { length result.words.now ≡ length (meant result).words * 8 }
 {
     LabelRef {
         default: u64::from(LABEL_DEFAULT.get(b, r)),
@@ -21,7 +22,8 @@ pub fn label_of(b: &Book, r: Row) -> LabelRef
 
 #[tactic(auto, using(labels::specs::Core::InPlace::meant_is))]
 pub fn clearance_of(b: &Book, r: Row) -> LabelRef
-    ensures { meant result ≡ clearance_of (view b.now) r }
+    ensures means { meant result ≡ clearance_of (view b.now) r }
+    ensures exact { length result.words.now ≡ length (meant result).words * 8 }
 {
     LabelRef {
         default: u64::from(CLEAR_DEFAULT.get(b, r)),

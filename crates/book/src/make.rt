@@ -2,23 +2,23 @@
 ghost use Rattle.std.specs.Prelude.{◌≡◌, ◌<◌, ◌*◌, length};
 ghost use Rattle.rules.specs.Kernel.{text_size};
 ghost use Rattle.tables.specs.Layout.{link_count, view, description_t, closure_t, run_t};
-ghost use Rattle.book.specs.Kinds.{code_of_kind};
 ghost use Rattle.book.specs.Enact.{free_row, free_link, row_filled, link_filled};
 ghost use Rattle.book.specs.Make.{object_of, numbers_filled, placed_in, place_for, created_in, linked_in, Filling, Creating, Linking};
 
 use super::alter::{move_on, relabel};
-use super::kinds::{FREE, Kind};
+use super::kinds::FREE;
 use labels::Label;
 use tables::{
-    Book, CLOSURE, DESCRIPTION, ENTRY, FIXED, ID, KIND, LEN, LINK_FROM, LINK_TO, LINKS, MASK,
-    QUOTA, Row, TEXT_SIZE, next,
+    Book, CLOSURE, DESCRIPTION, ENTRY, FIXED, ID, KIND, LAST_ROW, LEN, LINK_FROM, LINK_TO, LINKS,
+    MASK, QUOTA, Row, TEXT_SIZE, next,
 };
 
 // What a new row holds; what its kind does not have is 0. Its texts go beside it: a definition gives the whole of it, and cannot name
 // a slice that is lent.
 #[derive(Clone, Copy)]
 pub struct NewRow {
-    pub kind: Kind,
+    // The code of its kind and no kind: what is handed over may be absent, which has FREE, and `create` answers for that too.
+    pub kind: u8,
     pub mask: u8,
     pub quota: u16,
     pub entry: u64,
@@ -31,7 +31,7 @@ pub struct NewRow {
 pub fn free_row(b: &Book) -> Option<Row>
     ensures { result ≡ free_row (view b.now) }
 {
-    (0..=Row::MAX).find(|&r| KIND.get(b, r) == FREE)
+    (0..=LAST_ROW).find(|&r| KIND.get(b, r) == FREE)
 }
 
 pub fn free_link(b: &Book) -> Option<usize>
@@ -43,11 +43,11 @@ pub fn free_link(b: &Book) -> Option<usize>
 // ---- a row and a link
 
 #[tactic(auto, unfolding(crate::specs::Make::numbers_filled))]
-fn fill_numbers(b: &mut Book, r: Row, id: u64, kind: Kind, mask: u8, quota: u16, entry: u64)
-    ensures { view b.new ≡ numbers_filled r id (code_of_kind kind) mask quota entry (view b.old) }
+fn fill_numbers(b: &mut Book, r: Row, id: u64, kind: u8, mask: u8, quota: u16, entry: u64)
+    ensures { view b.new ≡ numbers_filled r id kind mask quota entry (view b.old) }
 {
     ID.put(b, r, id);
-    KIND.put(b, r, u8::from(kind));
+    KIND.put(b, r, kind);
     MASK.put(b, r, mask);
     FIXED.put(b, r, 0);
     QUOTA.put(b, r, quota);

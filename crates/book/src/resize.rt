@@ -11,7 +11,7 @@ use super::area::{Area, clear_block, clear_run};
 use super::blocks::{block_of, free_block};
 use super::limits::BLOCK_SIZE;
 use super::numbers::blocks_of;
-use tables::{Block, Book, INDEX, LEN, OWNER, Row};
+use tables::{Block, Book, INDEX, LAST_BLOCK, LEN, OWNER, Row};
 
 // ---- blocks that go
 
@@ -36,7 +36,7 @@ fn drop_block(b: &mut Book, area: &mut Area, r: Row, k: usize, x: Block)
 fn drop_blocks(b: &mut Book, area: &mut Area, r: Row, k: usize)
     ensures { (view b.new ≡ blocks_dropped r k (view b.old)) × (area.new ≡ wiped_to block_count r k (view b.old) area.old) }
 {
-    for x in 0..=Block::MAX {
+    for x in 0..=LAST_BLOCK {
         drop_block(b, area, r, k, x);
     }
 }

@@ -8,7 +8,7 @@ ghost use Rattle.book.specs.Book.{code_of, len_of, owner_of, blocks_of};
 ghost use Rattle.book.specs.Test.{every, owned_b, block_b, needed_blocks, blocks_b};
 ghost use Rattle.book.specs.Seen.{number_of, Offsets, Seen};
 
-use super::find::kind_of;
+use super::find::kind_at;
 use super::kinds::Kind;
 use super::numbers::{blocks_of, row_of};
 use tables::{BLOCKS, Block, Book, INDEX, LEN, OWNER, ROWS, Row};
@@ -28,7 +28,7 @@ fn used(b: &Book, i: Block) -> usize
 fn needed(b: &Book, r: Row) -> usize
     ensures { (result ≡ when (eqb (code_of (view b.now) r) segment_code) (blocks_of (len_of (view b.now) r))) × (result < 1025) }
 {
-    if kind_of(b, r) == Some(Kind::Segment) {
+    if kind_at(b, r) == Some(Kind::Segment) {
         blocks_of(LEN.get(b, r))
     } else {
         0
@@ -59,7 +59,7 @@ fn owned(b: &Book, i: Block) -> bool
     let Ok(owner) = Row::try_from(OWNER.get(b, i) - 1) else {
         return false;
     };
-    kind_of(b, owner) == Some(Kind::Segment)
+    kind_at(b, owner) == Some(Kind::Segment)
         && usize::from(INDEX.get(b, i)) < blocks_of(LEN.get(b, owner))
 }
 

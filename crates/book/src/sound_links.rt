@@ -7,7 +7,7 @@ ghost use Rattle.book.specs.Sound.{links_to, charged_to};
 ghost use Rattle.book.specs.Test.{every, mask_n, ends_b, link_b, same_b, once_b, tied_n, fits_n, tie_b, rows_b, links_b};
 ghost use Rattle.book.specs.Tally.{links_below, tally_b, Tallied};
 
-use super::find::kind_of;
+use super::find::kind_at;
 use super::kinds::{FREE, Kind};
 use super::limits::ROOT_QUOTA;
 use super::numbers::{blocks_of, row_of};
@@ -36,7 +36,7 @@ fn ends_ok(b: &Book, l: usize) -> bool
         return false;
     };
     let code = KIND.get(b, to);
-    kind_of(b, from) == Some(Kind::Container)
+    kind_at(b, from) == Some(Kind::Container)
         && code != FREE
         && mask(MASK.get(b, from), code, MASK.get(b, to))
 }

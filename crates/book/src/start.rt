@@ -17,7 +17,7 @@ fn root_row() -> NewRow
     ensures { result ≡ root_row }
 {
     NewRow {
-        kind: Kind::Container,
+        kind: u8::from(Kind::Container),
         mask: 0,
         quota: ROOT_QUOTA,
         entry: 0,
@@ -30,7 +30,7 @@ fn thread_row() -> NewRow
     ensures { result ≡ thread_row }
 {
     NewRow {
-        kind: Kind::Thread,
+        kind: u8::from(Kind::Thread),
         mask: 0,
         quota: 1,
         entry: 0,

@@ -6,7 +6,7 @@ ghost use Rattle.tables.specs.Layout.{view, link_count};
 ghost use Rattle.book.specs.Sound.{Live, Sound, charged_to};
 ghost use Rattle.book.specs.Units.{charge_of, use_at, spare_at};
 
-use super::find::{kind_of, len_of};
+use super::find::{kind_at, len_of};
 use super::kinds::Kind;
 use super::limits::{BLOCK_SIZE, ROUND_UP};
 use tables::{Book, LINK_FROM, LINK_TO, LINKS, QUOTA, Row};
@@ -59,7 +59,7 @@ pub fn use_of(b: &Book, r: Row) -> u64
     requires { Sound (view b.now) × Live (view b.now) r }
     ensures { result ≡ use_at (view b.now) r }
 {
-    match kind_of(b, r) {
+    match kind_at(b, r) {
         Some(Kind::Container) => 1 + charged(b, r),
         Some(Kind::Segment) => units(len_of(b, r)),
         _ => 1,

@@ -3,9 +3,8 @@ use Rattle.std.specs.Prelude.{ℕ, ◌≡◌, List, Result}
 use Rattle.std.specs.Int.Bits.{bit_or}
 use Rattle.labels.specs.declared.Label.{Label}
 use Rattle.labels.specs.Core.{label_of, plain}
-use Rattle.rules.specs.Kernel.{World, Obj, container_of, or_default, container_default, create_container}
+use Rattle.rules.specs.Kernel.{container_code, World, Obj, container_of, or_default, container_default, create_container}
 use Rattle.tables.specs.Layout.{view}
-use Rattle.book.specs.declared.kinds.Kind.TheVariants.{Container}
 use Rattle.book.specs.declared.make.NewRow.{NewRow}
 use Rattle.book.specs.Book.{world_of}
 use Rattle.calls.specs.declared.Refusal.{Refusal}
@@ -18,7 +17,7 @@ new_container w d l s m q = container_of (label_of l) s (bit_or m (w.obj d).mask
 
 -- the row it is handed over as
 abbrev pub container_row_of : Label → ℕ → ℕ → NewRow
-container_row_of l m q = record { kind = Container; mask = m; quota = q; entry = 0; label = l; clearance = plain 0 }
+container_row_of l m q = record { kind = container_code; mask = m; quota = q; entry = 0; label = l; clearance = plain 0 }
 
 -- what its judging answers: the outer container's row, and the label
 abbrev pub ContainerJudged : List ℕ → List ℕ → ℕ → ℕ → List ℕ → List ℕ → ℕ → ℕ → Result (ℕ × Label) Refusal → Type 0

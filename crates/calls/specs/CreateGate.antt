@@ -2,8 +2,7 @@
 use Rattle.std.specs.Prelude.{ℕ, ◌≡◌, List, Result}
 use Rattle.labels.specs.declared.Label.{Label}
 use Rattle.labels.specs.Core.{label_of}
-use Rattle.rules.specs.Kernel.{Obj, gate_of, create_gate}
-use Rattle.book.specs.declared.kinds.Kind.TheVariants.{Gate}
+use Rattle.rules.specs.Kernel.{gate_code, Obj, gate_of, create_gate}
 use Rattle.book.specs.declared.make.NewRow.{NewRow}
 use Rattle.calls.specs.declared.Refusal.{Refusal}
 use Rattle.calls.specs.Outcome.{verdict_on, Means}
@@ -15,7 +14,7 @@ new_gate l k e x s = gate_of (label_of l) (label_of k) e x s
 
 -- the row it is handed over as
 abbrev pub gate_row_of : Label → Label → ℕ → NewRow
-gate_row_of l k e = record { kind = Gate; mask = 0; quota = 1; entry = e; label = l; clearance = k }
+gate_row_of l k e = record { kind = gate_code; mask = 0; quota = 1; entry = e; label = l; clearance = k }
 
 -- what its judging answers: the container's row, the label and the clearance
 abbrev pub GateJudged : List ℕ → List ℕ → ℕ → ℕ → List ℕ → List ℕ → ℕ → List ℕ → List ℕ → Result (ℕ × Label × Label) Refusal → Type 0

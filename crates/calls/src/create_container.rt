@@ -62,7 +62,7 @@ fn new_row(label: Label, mask: u64, quota: u64) -> NewRow
     ensures { result ≡ container_row_of label mask quota }
 {
     NewRow {
-        kind: Kind::Container,
+        kind: u8::from(Kind::Container),
         mask: mask as u8,
         quota: quota as u16,
         entry: 0,

@@ -46,7 +46,7 @@ fn new_row(label: Label, clearance: Label, number: u64) -> NewRow
     ensures { result ≡ gate_row_of label clearance number }
 {
     NewRow {
-        kind: Kind::Gate,
+        kind: u8::from(Kind::Gate),
         mask: 0,
         quota: 1,
         entry: number,

@@ -47,7 +47,7 @@ fn new_row(label: Label, quota: u64) -> NewRow
     ensures { result ≡ segment_row label quota }
 {
     NewRow {
-        kind: Kind::Segment,
+        kind: u8::from(Kind::Segment),
         mask: 0,
         quota: quota as u16,
         entry: 0,

@@ -42,7 +42,7 @@ fn new_row(label: Label, clearance: Label) -> NewRow
     ensures { result ≡ thread_row_of label clearance }
 {
     NewRow {
-        kind: Kind::Thread,
+        kind: u8::from(Kind::Thread),
         mask: 0,
         quota: 1,
         entry: 0,

@@ -15,7 +15,7 @@ use super::leave::leave;
 use super::lookup::open_entry;
 use super::relabel::take_labels;
 use super::{Answer, Refusal};
-use book::find::{closure_into, entry_number_of, kind_of, next_of};
+use book::find::{closure_into, entry_number_of, kind_at, next_of};
 use book::in_place::{clearance_of, label_of};
 use book::kinds::Kind;
 use labels::in_place::value;
@@ -91,7 +91,7 @@ fn judge(
     let lent = lent_labels(next_of(book), lr, cr, lv, n).ok_or(Refusal::BadArgument)?;
     let place = open_entry(book, t, d, g)?;
     let object = place.object;
-    if kind_of(book, object) != Some(Kind::Gate) {
+    if kind_at(book, object) != Some(Kind::Gate) {
         return Err(Refusal::WrongKind);
     }
     conditions(book, t, object, lent.taken, lent.limit, lent.shown)?;

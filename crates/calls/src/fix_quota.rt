@@ -12,7 +12,7 @@ use super::leave::leave;
 use super::lookup::open_entry;
 use super::{Answer, Refusal};
 use book::alter::{fix, move_on};
-use book::find::kind_of;
+use book::find::kind_at;
 use book::in_place::label_of;
 use book::kinds::Kind;
 use labels::{LabelRef, Rule};
@@ -35,7 +35,7 @@ fn judge(b: &[u8], area: &[u8], caller: u64, d: u64, o: u64) -> Result<Row, Refu
     let (book, t) = begin(b, area, caller)?;
     let place = open_entry(book, t, d, o)?;
     let object = place.object;
-    if kind_of(book, object) != Some(Kind::Segment) {
+    if kind_at(book, object) != Some(Kind::Segment) {
         return Err(Refusal::WrongKind);
     }
     let mine = label_of(book, t);

@@ -12,7 +12,7 @@ use super::leave::leave;
 use super::lookup::{open_container, open_entry};
 use super::masks::forbids;
 use super::{Answer, Refusal};
-use book::find::{fixed_of, kind_of, link_of, quota_of};
+use book::find::{fixed_of, kind_at, link_of, quota_of};
 use book::in_place::{clearance_of, label_of};
 use book::kinds::Kind;
 use book::make::add_link;
@@ -51,7 +51,7 @@ fn judge(b: &[u8], area: &[u8], caller: u64, d1: u64, o: u64, d: u64) -> Result<
     let (book, t) = begin(b, area, caller)?;
     let place = open_entry(book, t, d1, o)?;
     let into = open_container(book, t, d)?;
-    if kind_of(book, place.object) != Some(Kind::Segment) {
+    if kind_at(book, place.object) != Some(Kind::Segment) {
         return Err(Refusal::WrongKind);
     }
     admit(book, t, into, place.object)

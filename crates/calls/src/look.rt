@@ -13,13 +13,13 @@ use super::lookup::{open_container, open_entry};
 use super::{Answer, Refusal};
 use book::alter::move_on;
 use book::area::clear_all;
-use book::find::description_into;
+use book::find::{description_into, kind_of};
 use book::in_place::label_of;
 use book::kinds::Kind;
 use labels::compare::may_read;
 use labels::in_place::put_words;
 use labels::{LabelRef, WORDS};
-use tables::{Book, KIND, Row, TEXT_SIZE, array_in_mut};
+use tables::{Book, Row, TEXT_SIZE, array_in_mut};
 
 // The bytes of an output: the description, eight bytes, and the words of a label.
 pub const LOOK_SIZE: usize = TEXT_SIZE + 8 + WORDS * 8;
@@ -106,7 +106,7 @@ fn look_into(b: &Book, t: Row, r: Row, out: &mut [u8])
 {
     let mine = label_of(b, t);
     let theirs = label_of(b, r);
-    let code = KIND.get(b, r);
+    let code = kind_of(b, r);
     let (text, rest) = out.split_at_mut(TEXT_SIZE);
     description_into(b, r, text);
     put_label(rest, code, mine, theirs);

@@ -16,7 +16,7 @@ use super::leave::leave;
 use super::lookup::open_entry;
 use super::{Answer, Refusal};
 use book::alter::{move_on, set_quota};
-use book::find::{fixed_of, kind_of, quota_of};
+use book::find::{fixed_of, kind_at, quota_of};
 use book::in_place::{clearance_of, label_of};
 use book::kinds::Kind;
 use book::units::spare_of;
@@ -28,7 +28,7 @@ use tables::{Book, Row, array_in_mut};
 fn movable(b: &Book, r: Row) -> bool
     ensures { result ≡ movable (view b.now) r }
 {
-    matches!(kind_of(b, r), Some(Kind::Segment | Kind::Container))
+    matches!(kind_at(b, r), Some(Kind::Segment | Kind::Container))
 }
 
 // RULES 8.11: ".. and, for n below 0, O flows to high(T)."
@@ -66,7 +66,7 @@ fn allowed(
 fn is_fixed(b: &Book, r: Row) -> bool
     ensures { result ≡ is_fixed (view b.now) r }
 {
-    kind_of(b, r) == Some(Kind::Segment) && fixed_of(b, r)
+    kind_at(b, r) == Some(Kind::Segment) && fixed_of(b, r)
 }
 
 // RULES 8.11: "13 if n is above D's spare, or if n is below 0 and -n is above O's spare."

@@ -12,7 +12,7 @@ ghost use Rattle.calls.specs.Part.{part_at};
 use super::Refusal;
 use super::conditions::{reading, writing};
 use book::blocks::block_of;
-use book::find::{kind_of, len_of};
+use book::find::{kind_at, len_of};
 use book::in_place::label_of;
 use book::kinds::Kind;
 use labels::LabelRef;
@@ -77,7 +77,7 @@ fn allowed(mine: LabelRef, theirs: LabelRef, writes: bool) -> Result<(), Refusal
 pub fn find_part(b: &Book, t: Row, r: Row, part: Part, writes: bool) -> Result<usize, Refusal>
     ensures { result ≡ part_at (view b.now) t r part.block part.from part.count writes }
 {
-    if kind_of(b, r) != Some(Kind::Segment) {
+    if kind_at(b, r) != Some(Kind::Segment) {
         return Err(Refusal::WrongKind);
     }
     allowed(label_of(b, t), label_of(b, r), writes)?;

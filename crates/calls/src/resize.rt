@@ -9,7 +9,7 @@ use super::leave::leave;
 use super::lookup::open_entry;
 use super::{Answer, Refusal};
 use book::alter::move_on;
-use book::find::{kind_of, quota_of};
+use book::find::{kind_at, quota_of};
 use book::in_place::label_of;
 use book::kinds::Kind;
 use book::units::units;
@@ -28,7 +28,7 @@ fn judge(b: &[u8], area: &[u8], caller: u64, d: u64, s: u64, length: u64) -> Res
     }
     let place = open_entry(book, t, d, s)?;
     let object = place.object;
-    if kind_of(book, object) != Some(Kind::Segment) {
+    if kind_at(book, object) != Some(Kind::Segment) {
         return Err(Refusal::WrongKind);
     }
     writing(label_of(book, t), label_of(book, object))?;

@@ -12,10 +12,11 @@ const SIZE: usize = WORDS * 8;
 // The bytes of a lent label: its default, then its words.
 pub const LABEL_SIZE: usize = 1 + SIZE;
 
-// The label with this default whose words stand in b from `from` on.
+// The label with this default whose words stand in b from `from` on, and no byte more than they have.
 #[tactic(auto, using(crate::specs::Core::InPlace::meant_held))]
 pub fn held(b: &[u8], default: u64, from: usize) -> LabelRef
-    ensures { meant result ≡ held_in b.now default from }
+    ensures means { meant result ≡ held_in b.now default from }
+    ensures exact { length result.words.now ≡ length (meant result).words * 8 }
 {
     LabelRef {
         default,
@@ -27,7 +28,8 @@ pub fn held(b: &[u8], default: u64, from: usize) -> LabelRef
 #[tactic(auto, using(crate::specs::Core::InPlace::held_own))]
 pub fn from_bytes(b: &[u8]) -> LabelRef
     requires { length b.now ≡ label_size }
-    ensures { meant result ≡ label_of b.now }
+    ensures means { meant result ≡ label_of b.now }
+    ensures exact { length result.words.now ≡ length (meant result).words * 8 }
 {
     held(b, u64::from(b[0]), 1)
 }

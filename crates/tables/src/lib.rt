@@ -25,6 +25,15 @@ pub type Row = u8;
 
 pub type Block = u8;
 
+// So these two say of the numbers above: with another of either, the type has to be another too.
+const _: () = prove!(ROWS == Row::MAX as usize + 1);
+
+const _: () = prove!(BLOCKS == Block::MAX as usize + 1);
+
+pub const LAST_ROW: Row = (ROWS - 1) as Row;
+
+pub const LAST_BLOCK: Block = (BLOCKS - 1) as Block;
+
 // The bytes of a description, and of a gate's closure.
 pub const TEXT_SIZE: usize = 32;
 

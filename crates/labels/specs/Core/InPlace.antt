@@ -1,6 +1,7 @@
 -- Labels where they are held: the words that bytes spell, and the label that is meant.
 use Prim.Native.Nat.{ℕ, zero, suc, ◌+◌, ◌-◌, ◌*◌, ◌/◌, ◌<◌, ◌≤◌}
 use Rattle.std.specs.Prelude.{◌≡◌, Bool, true, false, cond, leb, length, take, drop}
+use Rattle.std.specs.Borrow.{Bor}
 use Rattle.std.proofs.Math.Path.{refl, ap, ap₂}
 use Rattle.std.proofs.Common.{sym, ◌∙◌, subst, add-zero, le-leb, length-drop, length-take-le, drop-drop}
 use mathlib.Core.List.{List, [], ◌∷◌, ◌++◌}
@@ -145,6 +146,10 @@ module _ (l : LabelRef) where
   pub meant_held : (b : List ℕ) (d from : ℕ) → l.default ≡ d → spelt l.words.now ≡ words_in b from → meant l ≡ held_in b d from
   unfolding meant held_in
   meant_held b d from ed ew = label_ext _ _ ed ew
+
+-- the bytes of n words have no byte more than these
+pub meant_exact : (d : ℕ) (w : Bor (List ℕ)) (n : ℕ) → length w.now ≡ n * 8 → length w.now ≡ length (meant (record { default = d; words = w })).words * 8
+meant_exact d w n e = omega (arith, e, meant_length (record { default = d; words = w }))
 
 -- ---- the label that is held, from its default and its words
 

@@ -35,11 +35,19 @@ pick_more true l vs i j h = sets_more l vs i j h
 pick_more false l vs i j h = refl
 
 -- one number more
-run_more : (t i j : ℕ) (vs : List ℕ) (k : View) → j < length vs → put_t t (i + j) (get_or vs j 0) (run_t t i (take j vs) k) ≡ run_t t i (take (j + 1) vs) k
+pub run_more : (t i j : ℕ) (vs : List ℕ) (k : View) → j < length vs → put_t t (i + j) (get_or vs j 0) (run_t t i (take j vs) k) ≡ run_t t i (take (j + 1) vs) k
 run_more t i j vs k h =
     tabs_same _ _
     (λ s q. ap (λ (x : List ℕ). cond (eqb s t) (set x (i + j) (get_or vs j 0)) x) (tab_of_from (λ u. cond (eqb u t) (sets (tab_of k u) i (take j vs)) (tab_of k u)) s q)
     ∙ pick_more (eqb s t) (tab_of k s) vs i j h)
+
+none : (y : Bool) (l : List ℕ) → l ≡ cond y l l
+none true l = refl
+none false l = refl
+
+-- no number changes nothing
+pub run_none : (t i : ℕ) (k : View) → k ≡ run_t t i [] k
+run_none t i k = tabs_same (tab_of k) (λ s. cond (eqb s t) (tab_of k s) (tab_of k s)) (λ s q. none (eqb s t) (tab_of k s))
 
 -- as a walk puts them: v is the next, and the tables are b before it and c after it
 pub run_step : (t i j v : ℕ) (vs : List ℕ) (k b c : View) → j < length vs → v ≡ get_or vs j 0 → b ≡ run_t t i (take j vs) k → c ≡ put_t t (i + j) v b

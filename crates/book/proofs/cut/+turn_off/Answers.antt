@@ -20,7 +20,7 @@ turned t c e ok q =
     let gone = c.turn_off-k in
     let mark = c.get in
     let eo = o.ensures ∙ ap (λ (x : View). to_of x c.args.l) (sym c.put.ensures ∙ q) in
-    let code = kind_same c.kind_of.result (code_of (view c.put.new.b) o.result) Container c.kind_of.ensures (sym c.ne.ensures ∙ c.if-ne.false) in
+    let code = kind_same c.kind_at.result (code_of (view c.put.new.b) o.result) Container c.kind_at.ensures (sym c.ne.ensures ∙ c.if-ne.false) in
     let con = code_read e c.args.l ok c.put.new.b o.result (code_of (view c.put.new.b) o.result) q eo refl ∙ code in
     next_turned e c.args.l ok l.b l.k (l.invariant.3 e ok q) mark.result mark.ensures c.loop-k-test.true o.result
     (c.if-get-mark.true ∙ l.invariant.2) eo con (view gone.new.b) gone.ensures.unlinked
@@ -37,7 +37,7 @@ returns-then-ne-clause-unlinked t c =
     let a = c.args in
     let off = c.put in
     let con = code_read a.b.now a.l c.requires off.new.b c.get-o.result (code_of (view off.new.b) c.get-o.result) off.ensures c.get-o.ensures refl in
-    let other = kind_other c.kind_of.result (code_of (view off.new.b) c.get-o.result) Container c.kind_of.ensures (sym c.ne.ensures ∙ c.if-ne.true) in
+    let other = kind_other c.kind_at.result (code_of (view off.new.b) c.get-o.result) Container c.kind_at.ensures (sym c.ne.ensures ∙ c.if-ne.true) in
     all_done a.b.now a.l c.requires off.new.b 0 (begun a.b.now a.l c.requires off.new.b off.ensures) (λ q. absurd (other (sym con ∙ q)))
 
 pub loop-k-init : goal.loop-k-init

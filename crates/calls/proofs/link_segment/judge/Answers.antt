@@ -14,10 +14,10 @@ admit-requires c =
 pub returns-then-ne : goal.returns-then-ne
 returns-then-ne c =
     let (lent, by) = c.in_ok-book.ensures in
-    link_six _ _ _ _ _ _ _ _ lent by _ (sym c.in_ok-place.ensures) _ (sym c.in_ok-into.ensures) (kind_other _ _ Segment c.kind_of.ensures (sym c.if-ne.ensures))
+    link_six _ _ _ _ _ _ _ _ lent by _ (sym c.in_ok-place.ensures) _ (sym c.in_ok-into.ensures) (kind_other _ _ Segment c.kind_at.ensures (sym c.if-ne.ensures))
 
 pub returns : goal.returns
 returns c =
     let (lent, by) = c.in_ok-book.ensures in
-    link_judged _ _ _ _ _ _ _ _ lent by _ (sym c.in_ok-place.ensures) _ (sym c.in_ok-into.ensures) (kind_same _ _ Segment c.kind_of.ensures (sym c.if-ne.ensures))
+    link_judged _ _ _ _ _ _ _ _ lent by _ (sym c.in_ok-place.ensures) _ (sym c.in_ok-into.ensures) (kind_same _ _ Segment c.kind_at.ensures (sym c.if-ne.ensures))
     _ c.admit.ensures
