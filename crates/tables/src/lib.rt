@@ -25,11 +25,12 @@ pub type Row = u8;
 
 pub type Block = u8;
 
-// So these two say of the numbers above: with another of either, the type has to be another too.
+// So another number of rows or of blocks is refused here: it wants another type.
 const _: () = prove!(ROWS == Row::MAX as usize + 1);
 
 const _: () = prove!(BLOCKS == Block::MAX as usize + 1);
 
+// A search or a walk over all of them ends here.
 pub const LAST_ROW: Row = (ROWS - 1) as Row;
 
 pub const LAST_BLOCK: Block = (BLOCKS - 1) as Block;

@@ -147,6 +147,21 @@ module _ (l : LabelRef) where
   unfolding meant held_in
   meant_held b d from ed ew = label_ext _ _ ed ew
 
+  -- Fewer bytes than a word has, behind the words, mean nothing: what is meant does not say how many bytes there are.
+  pub meant_longer : (k : ℕ) (b : List ℕ) (d from : ℕ) → k < 8 → from + word_count * 8 + k ≤ length b → l.default ≡ d
+      → l.words.now ≡ take (from + word_count * 8 + k - from) (drop from b) → meant l ≡ held_in b d from
+  unfolding meant held_in words_in spelt
+  meant_longer k b d from few h ed ew =
+      let m = word_count * 8 + k in
+      let part = take m (drop from b) in
+      let n : from + word_count * 8 + k - from ≡ m = omega arith in
+      let whole : l.words.now ≡ part = ew ∙ ap (λ (x : ℕ). take x (drop from b)) n in
+      let long : length part ≡ m = length-take-le m (drop from b) (simp length-drop (omega arith)) in
+      let many : length part / 8 ≡ word_count = omega arith in
+      label_ext _ _ ed (rw (le-leb (from + word_count * 8) (length b) (omega arith))
+      (ap (λ (x : List ℕ). words_at (length x / 8) x 0) whole ∙ ap (λ (x : ℕ). words_at x part 0) many
+      ∙ words_at_part m b from word_count 0 (omega arith) ∙ ap (words_at word_count b) (add-zero from)))
+
 -- the bytes of n words have no byte more than these
 pub meant_exact : (d : ℕ) (w : Bor (List ℕ)) (n : ℕ) → length w.now ≡ n * 8 → length w.now ≡ length (meant (record { default = d; words = w })).words * 8
 meant_exact d w n e = omega (arith, e, meant_length (record { default = d; words = w }))
