@@ -10,13 +10,14 @@ use tables::Block;
 // RULES 1.8: ".. the data area, 16,384 bytes in 256 blocks of 64."
 pub type Area = [u8; AREA_LEN];
 
-// Puts the bytes into the area from `place` on.
-#[tactic(auto, using(crate::specs::Laws::Cleared::written_run))]
+// Puts the bytes into the area from `place` on. Not by `copy_from_slice`: of a length that is not known it asks the host for memmove.
 pub fn write_area(area: &mut [u8], place: usize, bytes: &[u8])
     requires { place + length bytes.now ≤ length area.old }
     ensures { area.new ≡ sets area.old place bytes.now }
 {
-    area[place..place + bytes.len()].copy_from_slice(bytes);
+    for j in 0..bytes.len() {
+        area[place + j] = bytes[j];
+    }
 }
 
 // Sets the bytes from `from` to before `to` to zero.

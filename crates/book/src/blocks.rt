@@ -4,7 +4,7 @@ ghost use Rattle.tables.specs.Layout.{view, block_count};
 ghost use Rattle.book.specs.Book.{is_block, owner_of, first};
 ghost use Rattle.book.specs.Enact.{free_block};
 
-use tables::{Block, Book, INDEX, LAST_BLOCK, OWNER, Row};
+use tables::{BLOCKS, Block, Book, INDEX, LAST_BLOCK, OWNER, Row};
 
 // Whether block x is block k of the segment at row r.
 #[tactic(auto, unfolding(quotas::specs::Any::both))]
@@ -32,5 +32,6 @@ fn is_free(b: &Book, x: Block) -> bool
 pub fn free_block(b: &Book) -> Option<Block>
     ensures { result ≡ free_block (view b.now) }
 {
-    (0..=LAST_BLOCK).find(|&x| is_free(b, x))
+    let x = (0..BLOCKS).find(|&x| is_free(b, x as Block))?;
+    Some(x as Block)
 }
