@@ -4,7 +4,7 @@ use Rattle.std.proofs.Math.Path.{sym, ap}
 use Rattle.std.proofs.Common.{arith, ap₂, subst, ◌∙◌}
 use Rattle.std.specs.Borrow.{Bor}
 use Rattle.rules.specs.Kernel as kernel
-use Rattle.rules.specs.Kernel.{Call, by, Verdict, refused, refuse, grant, call, read, answer_of, value_of}
+use Rattle.rules.specs.Kernel.{Call, by, Verdict, refused, grant, call, read, answer_of, value_of}
 use Rattle.rules.proofs.Laws.Bools.{bool_cases}
 use Rattle.rules.proofs.Theorems.Refusals.{answer_most, granted}
 use Rattle.book.specs.Book.{world_of}
@@ -13,7 +13,7 @@ use Rattle.tables.specs.Layout.{view}
 use Rattle.rules.proofs.Laws.Must.{refuse_no_grant}
 use Rattle.calls.specs.declared.Refusal.{Refusal}
 use Rattle.calls.specs.Read.{LocatedAs, Shown}
-use Rattle.calls.specs.Outcome.{Answer, verdict_on, number_of, value_in, number_told, value_told, Left, Done, DoneBy}
+use Rattle.calls.specs.Outcome.{Answer, verdict_on, number_of, value_in, number_told, value_told, Left, DoneBy}
 use Rattle.calls.specs.Laws.Leave.{numbered, numbered_is, ruled_once}
 use Rattle.calls.specs.Laws.Prelude.{verdict_one}
 use Rattle.calls.specs.Theorems.Kept.{verdict_is}
