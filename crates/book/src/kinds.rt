@@ -27,6 +27,15 @@ impl From<Kind> for u8 {
     }
 }
 
+// The codes by themselves, for what goes by the code.
+pub const THREAD: u8 = Kind::Thread as u8;
+
+pub const GATE: u8 = Kind::Gate as u8;
+
+pub const SEGMENT: u8 = Kind::Segment as u8;
+
+pub const CONTAINER: u8 = Kind::Container as u8;
+
 impl Kind {
     // The kind that has this code, if one has it: a free row's code is no kind's and no error.
     #[tactic(auto, unfolding(crate::specs::Kinds::kind_with))]
@@ -34,10 +43,10 @@ impl Kind {
         ensures { result ≡ kind_with code }
     {
         match code {
-            1 => Some(Kind::Thread),
-            2 => Some(Kind::Gate),
-            3 => Some(Kind::Segment),
-            4 => Some(Kind::Container),
+            THREAD => Some(Kind::Thread),
+            GATE => Some(Kind::Gate),
+            SEGMENT => Some(Kind::Segment),
+            CONTAINER => Some(Kind::Container),
             _ => None,
         }
     }

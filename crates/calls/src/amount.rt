@@ -29,9 +29,9 @@ impl TryFrom<i64> for Amount {
     }
 }
 
-// The quota that q becomes.
+// The quota that q becomes by an amount.
 #[tactic(auto, using(crate::specs::Laws::Amount::in_most, crate::specs::Laws::Amount::quota_in, crate::specs::Laws::Amount::out_most, crate::specs::Laws::Amount::quota_out))]
-pub fn moved(q: u64, units: Amount) -> u64
+pub fn moved_by(q: u64, units: Amount) -> u64
     requires { (q ≤ root_quota) × Reckoned units q }
     ensures { result ≡ quota_for units q }
 {
@@ -41,13 +41,13 @@ pub fn moved(q: u64, units: Amount) -> u64
     }
 }
 
-// The same of what a signed number comes to: one over the limit moves nothing.
-pub fn moved_if(q: u64, units: Result<Amount, Refusal>) -> u64
+// The quota that q becomes by what a signed number comes to: one over the limit moves nothing.
+pub fn moved(q: u64, units: Result<Amount, Refusal>) -> u64
     requires { (q ≤ root_quota) × ReckonedIf units q }
     ensures { result ≡ quota_if units q }
 {
     match units {
-        Ok(amount) => moved(q, amount),
+        Ok(amount) => moved_by(q, amount),
         Err(_) => q,
     }
 }

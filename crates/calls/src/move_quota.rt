@@ -9,7 +9,7 @@ ghost use Rattle.calls.specs.Outcome.{Done};
 ghost use Rattle.rules.specs.Kernel as kernel;
 ghost use Rattle.calls.specs.Conditions.{tested};
 
-use super::amount::{Amount, moved};
+use super::amount::{Amount, moved_by};
 use super::begin::begin;
 use super::conditions::{ask_two, reading, writing};
 use super::leave::leave;
@@ -120,7 +120,7 @@ pub fn move_quota(b: &mut [u8], area: &mut [u8], caller: u64, d: u64, o: u64, n:
         Err(r) => return leave(b, r),
     };
     let book = array_in_mut(b);
-    let q = moved(quota_of(book, row), units);
+    let q = moved_by(quota_of(book, row), units);
     set_quota(book, row, q);
     move_on(book);
     Ok(0)

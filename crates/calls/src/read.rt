@@ -6,7 +6,7 @@ use super::begin::begin;
 use super::leave::leave;
 use super::lookup::open_entry;
 use super::part::{Part, find_part};
-use super::spread::spread;
+use super::spread::spread_answer;
 use book::alter::move_on;
 use tables::array_in_mut;
 
@@ -73,7 +73,7 @@ pub fn read<'a>(
             &area[place..place + n]
         }
         Err(r) => {
-            *answer = spread(Err(r), value);
+            *answer = spread_answer(Err(r), value);
             &area[..0]
         }
     }

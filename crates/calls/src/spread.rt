@@ -5,7 +5,7 @@ ghost use Rattle.calls.specs.Outcome.{number_of, value_in, number_told, value_to
 use super::Answer;
 
 // Spreads an answer of numbers alone, which any number may refuse, into its number (RULES 6) and value.
-pub fn spread_numbers(answer: Result<u64, u64>, value: &mut u64) -> u64
+pub fn spread(answer: Result<u64, u64>, value: &mut u64) -> u64
     ensures { (result ≡ number_told answer) × (value.new ≡ value_told answer) }
 {
     let (number, given) = match answer {
@@ -17,11 +17,11 @@ pub fn spread_numbers(answer: Result<u64, u64>, value: &mut u64) -> u64
 }
 
 // The same of a call's answer.
-pub fn spread(answer: Answer, value: &mut u64) -> u64
+pub fn spread_answer(answer: Answer, value: &mut u64) -> u64
     ensures { (result ≡ number_of answer) × (value.new ≡ value_in answer) }
 {
     match answer {
-        Ok(v) => spread_numbers(Ok(v), value),
-        Err(r) => spread_numbers(Err(u64::from(r)), value),
+        Ok(v) => spread(Ok(v), value),
+        Err(r) => spread(Err(u64::from(r)), value),
     }
 }

@@ -21,7 +21,7 @@ use calls::read::locate;
 use calls::resize::resize;
 use calls::set_clearance::set_clearance;
 use calls::set_label::set_label;
-use calls::spread::spread;
+use calls::spread::spread_answer;
 use calls::start::start;
 use calls::unreference::unreference;
 use calls::write::write;
@@ -48,7 +48,7 @@ pub fn fw_start(b: &mut [u8], area: &mut [u8], first: u64) -> u64
 pub fn fw_create_category(b: &mut [u8], area: &mut [u8], caller: u64, value: &mut u64) -> u64
     ensures { Called b.old area.old caller kernel.create_category [] result value.new b.new area.new [] }
 {
-    spread(create_category(b, area, caller), value)
+    spread_answer(create_category(b, area, caller), value)
 }
 
 // Call 2: the caller's label.
@@ -61,7 +61,7 @@ pub fn fw_set_label(
 ) -> u64
     ensures { Called b.old area.old caller (kernel.set_label label.now) [] result value.new b.new area.new [] }
 {
-    spread(set_label(b, area, caller, label), value)
+    spread_answer(set_label(b, area, caller, label), value)
 }
 
 // Call 3: the caller's clearance.
@@ -74,7 +74,7 @@ pub fn fw_set_clearance(
 ) -> u64
     ensures { Called b.old area.old caller (kernel.set_clearance clearance.now) [] result value.new b.new area.new [] }
 {
-    spread(set_clearance(b, area, caller, clearance), value)
+    spread_answer(set_clearance(b, area, caller, clearance), value)
 }
 
 // Call 4: a new container.
@@ -93,7 +93,7 @@ pub fn fw_create_container(
         (kernel.create_container d label.now description.now mask quota)
         [] result value.new b.new area.new [] }
 {
-    spread(
+    spread_answer(
         create_container(b, area, caller, d, label, description, mask, quota),
         value,
     )
@@ -114,7 +114,7 @@ pub fn fw_create_segment(
         (kernel.create_segment d label.now description.now quota)
         [] result value.new b.new area.new [] }
 {
-    spread(
+    spread_answer(
         create_segment(b, area, caller, d, label, description, quota),
         value,
     )
@@ -137,7 +137,7 @@ pub fn fw_create_gate(
         (kernel.create_gate d label.now clearance.now number closure.now description.now)
         [] result value.new b.new area.new [] }
 {
-    spread(
+    spread_answer(
         create_gate(
             b,
             area,
@@ -168,7 +168,7 @@ pub fn fw_create_thread(
         (kernel.create_thread d label.now clearance.now description.now)
         [] result value.new b.new area.new [] }
 {
-    spread(
+    spread_answer(
         create_thread(b, area, caller, d, label, clearance, description),
         value,
     )
@@ -185,7 +185,7 @@ pub fn fw_unreference(
 ) -> u64
     ensures { Called b.old area.old caller (kernel.unreference d o) [] result value.new b.new area.new [] }
 {
-    spread(unreference(b, area, caller, d, o), value)
+    spread_answer(unreference(b, area, caller, d, o), value)
 }
 
 // Call 9: the entry (d1, o) linked into d.
@@ -200,7 +200,7 @@ pub fn fw_link_segment(
 ) -> u64
     ensures { Called b.old area.old caller (kernel.link_segment d1 o d) [] result value.new b.new area.new [] }
 {
-    spread(link_segment(b, area, caller, d1, o, d), value)
+    spread_answer(link_segment(b, area, caller, d1, o, d), value)
 }
 
 // Call 10: a segment's quota fixed.
@@ -214,7 +214,7 @@ pub fn fw_fix_quota(
 ) -> u64
     ensures { Called b.old area.old caller (kernel.fix_quota d o) [] result value.new b.new area.new [] }
 {
-    spread(fix_quota(b, area, caller, d, o), value)
+    spread_answer(fix_quota(b, area, caller, d, o), value)
 }
 
 // Call 11: n units moved into (d, o), or back.
@@ -229,7 +229,7 @@ pub fn fw_move_quota(
 ) -> u64
     ensures { Called b.old area.old caller (kernel.move_quota d o n) [] result value.new b.new area.new [] }
 {
-    spread(move_quota(b, area, caller, d, o, n), value)
+    spread_answer(move_quota(b, area, caller, d, o, n), value)
 }
 
 // Call 13: bytes written.
@@ -247,7 +247,7 @@ pub fn fw_write(
 ) -> u64
     ensures { Called b.old area.old caller (kernel.write d s k from count bytes.now) [] result value.new b.new area.new [] }
 {
-    spread(write(b, area, caller, d, s, k, from, count, bytes), value)
+    spread_answer(write(b, area, caller, d, s, k, from, count, bytes), value)
 }
 
 // Call 14: a segment resized.
@@ -262,7 +262,7 @@ pub fn fw_resize(
 ) -> u64
     ensures { Called b.old area.old caller (kernel.resize d s length) [] result value.new b.new area.new [] }
 {
-    spread(resize(b, area, caller, d, s, length), value)
+    spread_answer(resize(b, area, caller, d, s, length), value)
 }
 
 // Call 15: a gate entered; its closure bytes go into `out`.
@@ -282,7 +282,7 @@ pub fn fw_enter_gate(
         (kernel.enter_gate d g given.now cleared.now verify.now (length out.old))
         out.old result value.new b.new area.new out.new }
 {
-    spread(
+    spread_answer(
         enter_gate(b, area, caller, d, g, given, cleared, verify, out),
         value,
     )
@@ -302,7 +302,7 @@ pub fn fw_look(
         (kernel.look d o (length out.old))
         out.old result value.new b.new area.new out.new }
 {
-    spread(look(b, area, caller, d, o, out), value)
+    spread_answer(look(b, area, caller, d, o, out), value)
 }
 
 // The place that is given for a part: 0 for an empty one.
@@ -341,7 +341,7 @@ pub fn fw_read(
         Err(refused) => {
             *place = 0;
             *length = 0;
-            spread(Err(refused), value)
+            spread_answer(Err(refused), value)
         }
     }
 }

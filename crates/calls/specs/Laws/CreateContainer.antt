@@ -125,12 +125,12 @@ module _ (n : ℕ) (l s : List ℕ) (d m q : ℕ) (good : good_arguments n (crea
       let h = default_most q container_default max_quota (leb-true q max_quota (and_r (leb m max_mask) (leb q max_quota) numbers_good)) (omega arith) in
       omega arith
 
-  module _ (w b area : List ℕ) (c i : ℕ) (same : w ≡ b) (ready : Ready b area) (go : ToMake b area c (create_container d l s m q) d (new_container (world_of (view b) area) d l s m q) i)
-      (row : NewRow) (label : Label) (joined outer units : ℕ) (e : row ≡ container_row_of label joined units) (f : label ≡ core.label_of l)
-      (g : joined ≡ bit_or m outer) (o : outer ≡ mask_of (view w) i) (h : units ≡ or_default q container_default) where
+  module _ (b area : List ℕ) (i : ℕ) (at : container_row (view b) d ≡ Some i) (row : NewRow) (label : Label) (joined outer units : ℕ)
+      (e : row ≡ container_row_of label joined units) (f : label ≡ core.label_of l) (g : joined ≡ bit_or m outer) (o : outer ≡ mask_of (view b) i)
+      (h : units ≡ or_default q container_default) where
     row_is : row ≡ container_row_of (core.label_of l) (bit_or m (mask_of (view b) i)) (or_default q container_default)
     row_is =
-        e ∙ ap₂ (λ (z : Label) (y : ℕ). container_row_of z y units) f (g ∙ ap (bit_or m) (o ∙ ap (λ (z : List ℕ). mask_of (view z) i) same))
+        e ∙ ap₂ (λ (z : Label) (y : ℕ). container_row_of z y units) f (g ∙ ap (bit_or m) o)
         ∙ ap (container_row_of (core.label_of l) (bit_or m (mask_of (view b) i))) h
 
     -- what is handed over is the container
@@ -140,15 +140,28 @@ module _ (n : ℕ) (l s : List ℕ) (d m q : ℕ) (good : good_arguments n (crea
         (container_handed (core.label_of l) s (good_default n false l label_good) (label_of_length l)
         (good_text_long s (and_l (good_text s) (leb m max_mask && leb q max_quota) rest_good)) (bit_or m (mask_of (view b) i)) (or_default q container_default))
 
-    made_object : object_of row s (replicate text_size 0) ≡ new_container (world_of (view b) area) d l s m q
-    made_object =
+    pub container_object : object_of row s (replicate text_size 0) ≡ new_container (world_of (view b) area) d l s m q
+    container_object =
         ap (λ (z : NewRow). object_of z s (replicate text_size 0)) row_is
         ∙ row_is_container (core.label_of l) (bit_or m (mask_of (view b) i)) (or_default q container_default) s (replicate text_size 0)
-        ∙ ap (λ (z : ℕ). container_of (core.label_of l) s (bit_or m z) (or_default q container_default)) (sym (mask_at b area d i go.container))
+        ∙ ap (λ (z : ℕ). container_of (core.label_of l) s (bit_or m z) (or_default q container_default)) (sym (mask_at b area d i at))
+
+  module _ (w b area : List ℕ) (c i : ℕ) (same : w ≡ b) (ready : Ready b area) (go : ToMake b area c (create_container d l s m q) d (new_container (world_of (view b) area) d l s m q) i)
+      (row : NewRow) (label : Label) (joined outer units : ℕ) (e : row ≡ container_row_of label joined units) (f : label ≡ core.label_of l)
+      (g : joined ≡ bit_or m outer) (o : outer ≡ mask_of (view w) i) (h : units ≡ or_default q container_default) where
+    -- the mask is that of the book as it was lent
+    outer_is : outer ≡ mask_of (view b) i
+    outer_is = o ∙ ap (λ (z : List ℕ). mask_of (view z) i) same
+
+    handed_whole : Handed row s (replicate text_size 0)
+    handed_whole = container_whole b area i go.container row label joined outer units e f g outer_is h
+
+    made_object : object_of row s (replicate text_size 0) ≡ new_container (world_of (view b) area) d l s m q
+    made_object = container_object b area i go.container row label joined outer units e f g outer_is h
 
     -- so it can be made, and the call is done by it
     pub container_creating : Creating w i row s (replicate text_size 0)
-    container_creating = creating w b area c (create_container d l s m q) d (new_container (world_of (view b) area) d l s m q) i same ready go row s (replicate text_size 0) container_whole
+    container_creating = creating w b area c (create_container d l s m q) d (new_container (world_of (view b) area) d l s m q) i same ready go row s (replicate text_size 0) handed_whole
 
     pub container_done : (b' : List ℕ) → length b' ≡ length b → view b' ≡ created_in i (object_of row s (replicate text_size 0)) (view w) → (v : ℕ) → v ≡ next_of (view w)
         → Done b area c (create_container d l s m q) (Ok v) b' area

@@ -5,5 +5,5 @@ use Rattle.flytewood.proofs.fw_create_gate.Goals as goal
 
 pub returns : goal.returns
 returns c =
-    no_buffer _ _ _ _ _ _ _ _ _ c.spread.ensures.0 c.spread.ensures.1 c.create_gate.ensures
+    no_buffer _ _ _ _ _ _ _ _ _ c.spread_answer.ensures.0 c.spread_answer.ensures.1 c.create_gate.ensures
     c.slice_known-3-1.given c.slice_known-4-1.given (unfold output_size in refl)

@@ -6,6 +6,6 @@ use Rattle.flytewood.proofs.fw_move_quota.Goals as goal
 
 pub returns : goal.returns
 returns c =
-    no_buffer _ _ _ _ _ _ _ _ _ c.spread.ensures.0 c.spread.ensures.1
+    no_buffer _ _ _ _ _ _ _ _ _ c.spread_answer.ensures.0 c.spread_answer.ensures.1
     (rw (to_z-of_z c.ranges.n) at c.move_quota.ensures)
     c.slice_known-3-1.given c.slice_known-4-1.given (unfold output_size in refl)

@@ -9,4 +9,4 @@ returns-in-Ok c =
 pub returns-in-Err : goal.returns-in-Err
 returns-in-Err c =
     read_refused _ _ _ _ _ _ _ _ _ c.slice_known-3-1.given c.slice_known-2-1.given _ _ _
-    c.spread.ensures.0 c.spread.ensures.1 c.in-Err.ensures
+    c.spread_answer.ensures.0 c.spread_answer.ensures.1 c.in-Err.ensures
